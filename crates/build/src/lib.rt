@@ -1,0 +1,1 @@
+// The walk of one hub, and the build: walks in rank order from empty rows.

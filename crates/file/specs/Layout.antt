@@ -1,0 +1,39 @@
+-- The field list of the index file: the one place that says which fields it has, in which order and how wide. n frames,
+-- stop k, width w, order O, label room and count room.
+use Prim.Native.Nat.{ℕ, zero, suc, _+_, _-_, _*_}
+use mathlib.Core.List.{List, [], _∷_, _++_}
+use lib.ListN.{length, getD}
+use Rattle.rows.specs.Entry.{rankOf, joinsOf}
+use Rattle.rows.specs.Rooms.{rowAt}
+use Rattle.file.specs.Bits.{Field, field, packed}
+
+-- header of 32 bits: version 4, n - 1 in 12, k in 13, spare 3
+unfoldable pub headerFields : ℕ → ℕ → List Field
+headerFields n k = field 1 4 ∷ field (n - 1) 12 ∷ field k 13 ∷ field 0 3 ∷ []
+
+-- the order: 12 bits for each frame number
+unfoldable pub orderFields : List ℕ → List Field
+orderFields [] = []
+orderFields (v ∷ vs) = field v 12 ∷ orderFields vs
+
+-- the entries of a row: rank 12, joins 12
+unfoldable pub entryFields : List ℕ → List Field
+entryFields [] = []
+entryFields (e ∷ es) = field (rankOf e) 12 ∷ field (joinsOf e) 12 ∷ entryFields es
+
+-- a row: a count of 9 and its entries
+unfoldable pub rowFields : ℕ → List ℕ → List ℕ → ℕ → List Field
+rowFields w labels counts v = field (getD counts v 0) 9 ∷ entryFields (rowAt w labels counts v)
+
+-- `left` rows from frame v on
+unfoldable pub rowsFields : ℕ → List ℕ → List ℕ → ℕ → ℕ → List Field
+rowsFields w labels counts v zero = []
+rowsFields w labels counts v (suc left) = rowFields w labels counts v ++ rowsFields w labels counts (suc v) left
+
+-- the fields of the whole file
+unfoldable pub fileFields : ℕ → ℕ → ℕ → List ℕ → List ℕ → List ℕ → List Field
+fileFields n k w O labels counts = headerFields n k ++ (orderFields O ++ rowsFields w labels counts 0 n)
+
+-- the file's bytes
+unfoldable pub fileOf : ℕ → ℕ → ℕ → List ℕ → List ℕ → List ℕ → List ℕ
+fileOf n k w O labels counts = packed (fileFields n k w O labels counts)

@@ -1,0 +1,1 @@
+// The index file: bit-packed fields, most significant first.

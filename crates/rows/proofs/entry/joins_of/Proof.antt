@@ -1,0 +1,15 @@
+use Rattle.rows.specs.Entry.{joinsOf}
+use mathlib.Core.Path.{refl}
+use borrow.Author.Needs.{needs}
+use Rattle.rows.proofs.entry.joins_of.Statement.{statement}
+use Rattle.rows.proofs.entry.joins_of.Tie as tie
+
+cast-result : tie.Need-cast-result
+cast-result c = search needs
+
+returns : tie.Need-returns
+unfolding joinsOf
+returns c = refl
+
+pub joins-of-spec : {M : Type 1} → statement M
+joins-of-spec = tie.close (tie.spec cast-result returns)

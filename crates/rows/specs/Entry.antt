@@ -1,0 +1,23 @@
+-- The entry's layout: rank * 65,536 + joins.
+use Prim.Native.Nat.{ℕ, _+_, _*_, _/_, _%_}
+use mathlib.Core.List.{List, [], _∷_}
+use Rattle.theory.specs.Rows.{Row}
+
+unfoldable pub rankOf : ℕ → ℕ
+rankOf e = e / 65536
+
+unfoldable pub joinsOf : ℕ → ℕ
+joinsOf e = e % 65536
+
+unfoldable pub entryOf : ℕ → ℕ → ℕ
+entryOf rank joins = rank % 65536 * 65536 + joins % 65536
+
+-- the ranks and joins of a list of entries
+unfoldable pub decode : List ℕ → Row
+decode [] = []
+decode (e ∷ es) = (rankOf e, joinsOf e) ∷ decode es
+
+-- the entries of a list of ranks and joins
+unfoldable pub encode : Row → List ℕ
+encode [] = []
+encode (p ∷ ps) = entryOf (p .0) (p .1) ∷ encode ps

@@ -1,0 +1,66 @@
+-- The label room and the count room, and the tests on their rows: row v starts at place v * w and has as many used
+-- entries as the count room says.
+use Prim.Native.Nat.{ℕ, _+_, _-_, _*_}
+use mathlib.Core.Bool.{Bool, cond, not, _&&_, _||_}
+use mathlib.Core.List.{List, []}
+use lib.ListN.{length, getD, take, drop}
+use lib.Dec.{leb, ltb, eqb}
+use Rattle.basics.specs.Places.{first, some}
+use Rattle.refusal.specs.Numbers.{SIZE, LENGTH, FRAME, ROW}
+use Rattle.refusal.specs.Tests.{test, _then_}
+use Rattle.refusal.specs.declared.Verdict.{Verdict}
+use Rattle.rows.specs.Entry.{rankOf, joinsOf}
+
+-- n from 1 to 4,096, W from 1 to 256
+unfoldable pub sizesFit : ℕ → ℕ → Bool
+sizesFit n w = leb 1 n && leb n 4096 && leb 1 w && leb w 256
+
+-- the label room has n * W places, the count room n
+unfoldable pub roomsFit : ℕ → ℕ → List ℕ → List ℕ → Bool
+roomsFit n w labels counts = eqb (length labels) (n * w) && eqb (length counts) n
+
+-- 1 and 2 for a label room and a count room
+unfoldable pub roomTests : ℕ → ℕ → List ℕ → List ℕ → Verdict
+roomTests n w labels counts = test (sizesFit n w) SIZE 0 then test (roomsFit n w labels counts) LENGTH 0
+
+-- `count` entries of row v
+unfoldable pub part : ℕ → List ℕ → ℕ → ℕ → List ℕ
+part w labels v count = take count (drop (v * w) labels)
+
+-- the used part of row v
+unfoldable pub rowAt : ℕ → List ℕ → List ℕ → ℕ → List ℕ
+rowAt w labels counts v = part w labels v (getD counts v 0)
+
+-- entry i of a row breaks the rule: rank not below the bound, joins not below n, or rank not above the one before
+unfoldable pub faultyEntry : ℕ → ℕ → List ℕ → ℕ → Bool
+faultyEntry bound n row i =
+    leb bound (rankOf (getD row i 0))
+    || leb n (joinsOf (getD row i 0))
+    || (ltb 0 i && leb (rankOf (getD row i 0)) (rankOf (getD row (i - 1) 0)))
+
+-- a sound row has count at most W, strictly rising ranks below the bound, joins below n
+unfoldable pub soundRow : ℕ → ℕ → ℕ → List ℕ → List ℕ → ℕ → Bool
+soundRow bound n w labels counts v =
+    leb (getD counts v 0) w && not (some (faultyEntry bound n (rowAt w labels counts v)) 0 (getD counts v 0))
+
+-- 8: the asked frame is n or more
+unfoldable pub frameTest : ℕ → ℕ → ℕ → Verdict
+frameTest n v place = test (ltb v n) FRAME place
+
+-- 9: row v is not sound; the frame
+unfoldable pub rowTest : ℕ → ℕ → ℕ → List ℕ → List ℕ → ℕ → Verdict
+rowTest bound n w labels counts v = test (soundRow bound n w labels counts v) ROW v
+
+-- 9 for all rows: the lowest frame whose row is not sound
+unfoldable pub rowsTest : ℕ → ℕ → ℕ → List ℕ → List ℕ → Verdict
+rowsTest bound n w labels counts =
+    let v : ℕ = first (λ u. not (soundRow bound n w labels counts u)) 0 n in
+    test (eqb v n) ROW v
+
+-- the test of all rows for a bound: 1, 2, 9
+unfoldable pub checkRows : ℕ → ℕ → ℕ → List ℕ → List ℕ → Verdict
+checkRows bound n w labels counts = roomTests n w labels counts then rowsTest bound n w labels counts
+
+-- the row check: 1, 2, 8, 9
+unfoldable pub checkRow : ℕ → ℕ → List ℕ → List ℕ → ℕ → Verdict
+checkRow n w labels counts v = roomTests n w labels counts then frameTest n v 0 then rowTest n n w labels counts v

@@ -1,0 +1,3 @@
+// Rows and the questions asked of them: the entry's layout, sound rows, the pair question, the row check and lookup, and
+// the spread.
+pub mod entry;

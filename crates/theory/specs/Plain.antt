@@ -1,0 +1,31 @@
+-- The plain index: every join counts 1. The paper's own names for a block of n frames with starts S, neighbour places L
+-- and order O.
+use Prim.Native.Nat.{ℕ, _+_}
+use mathlib.Core.Bool.{Bool, _&&_}
+use mathlib.Core.List.{List}
+use lib.ListN.{length, getD}
+use lib.Dec.{eqb, ltb}
+use Rattle.basics.specs.Places.{some}
+use Rattle.theory.specs.Links.{inList, hubOf}
+use Rattle.theory.specs.Distance.{far, dist}
+use Rattle.theory.specs.Rows.{Row, ruleRow}
+
+-- every join counts 1
+abbrev pub ones : ℕ → ℕ
+ones i = 1
+
+-- above every count of joins, and every sum of two
+abbrev pub none-yet : ℕ → ℕ
+none-yet n = far 1 n
+
+-- the list of u holds v
+unfoldable pub joined : List ℕ → List ℕ → ℕ → ℕ → Bool
+joined S L u v = some (λ i. inList S u i && eqb (getD L i 0) v) 0 (length L)
+
+-- d(a,b): the fewest joins of a chain from a to b
+unfoldable pub joinsTo : ℕ → List ℕ → List ℕ → ℕ → ℕ → ℕ
+joinsTo n S L = dist 1 n S L ones
+
+-- the row of v by the row rule at stop k
+unfoldable pub rowBy : ℕ → List ℕ → List ℕ → List ℕ → ℕ → ℕ → Row
+rowBy n S L O k v = ruleRow (far 1 n) (joinsTo n S L) (hubOf O) k v
