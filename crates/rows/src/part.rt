@@ -12,7 +12,7 @@ pub fn row_part(labels: &[Entry], w: usize, v: usize, count: usize) -> &[Entry]
     ensures entries { λ r. ⌜ now r ≡ partOf w (now (labels .entry)) v count ⌝ }
     ensures lies { λ r. ⌜
         ptr r ≡ (ptr (labels .entry) .0, partStart w (now (labels .entry)) v count * entryBytes + ptr (labels .entry) .1)
-    ⌝ }
+        ⌝ }
 {
     if 4096 <= v {
         return &labels[0..0];
