@@ -38,10 +38,10 @@ pub met-ext : {B n : ℕ} {W : ℕ → ℕ → ℕ} {P Q : ℕ → ℕ} {x : ℕ
     → Met B n W P x t → Met B n W Q x t
 met-ext {P = P} {Q = Q} {t = t} same a =
     record {
-    cap = a .cap;
-    start = a .start;
-    on = λ u v p q l. a .on u v p q (omega (arith, same u p));
-    from = λ v p e g.
-    let (u, q, less, step) = a .from v p e g in
-    (u, q, omega (arith, same u q), step)
+      cap = a .cap;
+      start = a .start;
+      on = λ u v p q l. a .on u v p q (omega (arith, same u p));
+      from = λ v p e g.
+          let (u, q, less, step) = a .from v p e g in
+          (u, q, omega (arith, same u q), step);
     }
