@@ -2,3 +2,4 @@ pub mod Counting
 pub mod DistVia
 pub mod Rule
 pub mod Walk
+pub mod Levels
