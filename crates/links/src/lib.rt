@@ -3,7 +3,7 @@ use refusal::Verdict;
 ghost use mathlib.Core.Path.{_≡_};
 ghost use Rattle.links.specs.Order.{checkOrder};
 
-mod order;
+mod once;
 mod refuse;
 
 // Check order: tests 1, 2 and 5 on an order of n frames.
@@ -19,5 +19,5 @@ pub fn check_order(n: usize, order: &[u32]) -> Verdict
     if order.len() != n {
         return refuse::refused(refusal::LENGTH, 0);
     }
-    order::each_once(n, order)
+    once::each_once(n, order)
 }
