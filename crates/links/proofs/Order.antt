@@ -17,7 +17,7 @@ use Rattle.refusal.specs.Numbers.{SIZE, LENGTH, ORDER}
 use Rattle.refusal.specs.Tests.{test, _then_, refusal}
 use Rattle.refusal.specs.declared.Verdict.{Verdict}
 use Rattle.refusal.specs.declared.Verdict.the-variants.{Fine, Refused}
-use Rattle.refusal.proofs.Laws.{test-true, test-false, test-fine, then-next, then-stop}
+use Rattle.refusal.proofs.Laws.{test-fine, test-refused, test-held, after-fine, after-refused}
 use Rattle.theory.specs.Links.{Order}
 use Rattle.links.specs.Links.{framesFit}
 use Rattle.links.specs.Order.{stands, faultyRank, orderTest, checkOrder}
@@ -40,18 +40,18 @@ many-frames n many = rw (le-leb 1 n (omega arith), lt-leb n 4096 many) refl
 pub order-alone : (n : ℕ) (O : List ℕ) → 1 ≤ n → n ≤ 4096 → length O ≡ n → checkOrder n O ≡ orderTest n O
 unfolding checkOrder
 order-alone n O one most long =
-    then-next _ _ (test-true _ _ _ (frames-fit n one most)) ∙ then-next _ _ (test-true _ _ _ (eq-eqb (length O) n long))
+    after-fine _ (test-fine _ _ (frames-fit n one most)) ∙ after-fine _ (test-fine _ _ (eq-eqb (length O) n long))
 
 pub order-unfit : (n : ℕ) (O : List ℕ) → framesFit n ≡ false → checkOrder n O ≡ Refused (refusal SIZE 0)
 unfolding checkOrder
-order-unfit n O e = then-stop _ _ (test-false _ _ _ e)
+order-unfit n O e = after-refused _ (test-refused _ _ e)
 
 pub order-length : (n : ℕ) (O : List ℕ) → 1 ≤ n → n ≤ 4096 → (length O ≡ n → ⊥)
     → checkOrder n O ≡ Refused (refusal LENGTH 0)
 unfolding checkOrder
 order-length n O one most other =
-    then-next _ _ (test-true _ _ _ (frames-fit n one most))
-    ∙ then-stop _ _ (test-false _ _ _ (ne-eqb (length O) n other))
+    after-fine _ (test-fine _ _ (frames-fit n one most))
+    ∙ after-refused _ (test-refused _ _ (ne-eqb (length O) n other))
 
 -- ---- one pass over the ranks
 
@@ -113,7 +113,7 @@ module _ {n : ℕ} {O : List ℕ} {seen : List Bool} {r : ℕ} (s : Seen n O see
   seen-stop h bad =
       let here : first (faultyRank n (λ j. getD O j 0)) 0 n ≡ r =
       sym (s .rest) ∙ ap (first (faultyRank n (λ j. getD O j 0)) r) (less-one h) ∙ first-hit _ _ _ bad in
-      rw here (test-false (eqb r n) ORDER r (ne-eqb r n (λ e. omega arith)))
+      rw here (test-refused ORDER r (ne-eqb r n (λ e. omega arith)))
 
   -- a frame seen before makes a faulty rank
   pub seen-twice : n ≤ 4096 → r < n → getD O r 0 < n → getD seen (getD O r 0) false ≡ true
@@ -150,7 +150,7 @@ module _ {n : ℕ} {O : List ℕ} {seen : List Bool} {r : ℕ} (s : Seen n O see
       let none-left : n - r ≡ 0 = omega arith in
       let here : first (faultyRank n (λ j. getD O j 0)) 0 n ≡ r =
       sym (s .rest) ∙ ap (first (faultyRank n (λ j. getD O j 0)) r) none-left ∙ first-end _ r in
-      rw here (test-true (eqb r n) ORDER r (eq-eqb r n (omega (arith, s .upto))))
+      rw here (test-fine ORDER r (eq-eqb r n (omega (arith, s .upto))))
 
 -- no rank passed yet
 pub seen-first : (n : ℕ) (O : List ℕ) → Seen n O (replicate 4096 false) 0
@@ -167,7 +167,7 @@ pub order-sound : (n : ℕ) (O : List ℕ) → orderTest n O ≡ Fine → length
 unfolding orderTest
 order-sound n O fine long =
     let f : ℕ → ℕ = λ j. getD O j 0 in
-    let whole : first (faultyRank n f) 0 n ≡ n = eqb-true _ _ (test-fine _ _ _ fine) in
+    let whole : first (faultyRank n f) 0 n ≡ n = eqb-true _ _ (test-held _ _ _ fine) in
     let sound : (r : ℕ) → r < n → faultyRank n f r ≡ false = λ r h.
     first-before (faultyRank n f) 0 n r (omega arith) (omega arith) in
     record {
