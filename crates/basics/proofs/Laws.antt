@@ -1,0 +1,348 @@
+-- The laws that every crate uses: cases on a truth value, searches over places, least values, tables, sums, one stored
+-- place.
+use Prim.Native.Nat.{ℕ, zero, suc, _+_, _-_, _*_, _≤_, _<_, min}
+use mathlib.Core.Path.{_≡_, refl, sym, ap, _∙_}
+use mathlib.Core.Logic.{_⊎_, inl, inr}
+use mathlib.Core.Bool.{Bool, true, false, cond, not, _&&_, _||_, true≢false}
+use mathlib.Core.List.{List, [], _∷_, _++_}
+use native.Mathlib.Nat.{add-suc, suc-mul, mul-le-mul-right, add-zero}
+use native.Mathlib.Numerals.{add-one}
+use native.Mathlib.Decide.{decLe, decLt, ℕ-discrete}
+use native.Mathlib.Omega.{arith}
+use lib.ListN.{length, getD, set, length-set}
+use lib.Seq.{ext-getD, getD-set-same, getD-set-other}
+use Rattle.basics.specs.Places.{first, some, least, table, sum}
+
+-- ---- cases
+
+-- by cases on a truth value, with the equation
+pub bcase {ℓ} : {C : Type ℓ} (b : Bool) → (b ≡ true → C) → (b ≡ false → C) → C
+bcase true f g = f refl
+bcase false f g = g refl
+
+-- by cases on a decision
+pub by-cases {ℓ} : {A : Type 0} {C : Type ℓ} → Dec A → (A → C) → ((A → ⊥) → C) → C
+by-cases (yes a) f g = f a
+by-cases (no a) f g = g a
+
+-- by cases on a sum, the sum first
+pub cases {ℓ} : {A B : Type 0} {C : Type ℓ} → A ⊎ B → (A → C) → (B → C) → C
+cases (inl a) f g = f a
+cases (inr b) f g = g b
+
+-- below, or not below
+pub lt-or-ge {ℓ} : {C : Type ℓ} (a b : ℕ) → (a < b → C) → (b ≤ a → C) → C
+lt-or-ge a b f g = by-cases (decLt a b) f (λ h. g (omega arith))
+
+-- below, equal or above
+pub three-ways {ℓ} : {C : Type ℓ} (a b : ℕ) → (a < b → C) → (a ≡ b → C) → (b < a → C) → C
+three-ways a b f g h = by-cases (decLt a b) f (λ p. by-cases (ℕ-discrete a b) g (λ q. h (omega arith)))
+
+pub not-both {ℓ} : {C : Type ℓ} {b : Bool} → b ≡ true → b ≡ false → C
+not-both p q = absurd (true≢false (sym p ∙ q))
+
+-- ---- truth values
+
+pub both-true : (a b : Bool) → a && b ≡ true → (a ≡ true) × (b ≡ true)
+both-true true b e = (refl, e)
+both-true false b e = not-both e refl
+
+pub both : (a b : Bool) → a ≡ true → b ≡ true → a && b ≡ true
+both true b p q = q
+both false b p q = p
+
+pub either-false : (a b : Bool) → a || b ≡ false → (a ≡ false) × (b ≡ false)
+either-false true b e = not-both refl e
+either-false false b e = (refl, e)
+
+pub neither : (a b : Bool) → a ≡ false → b ≡ false → a || b ≡ false
+neither true b p q = p
+neither false b p q = q
+
+pub either-left : (a b : Bool) → a ≡ true → a || b ≡ true
+either-left true b p = refl
+either-left false b p = not-both p refl
+
+pub either-right : (a b : Bool) → b ≡ true → a || b ≡ true
+either-right true b p = refl
+either-right false b p = p
+
+pub either-true : (a b : Bool) → a || b ≡ true → (a ≡ true) ⊎ (b ≡ true)
+either-true true b e = inl refl
+either-true false b e = inr e
+
+pub not-of-true : {b : Bool} → b ≡ true → not b ≡ false
+not-of-true e = ap not e
+
+pub not-of-false : {b : Bool} → b ≡ false → not b ≡ true
+not-of-false e = ap not e
+
+pub of-not-true : (b : Bool) → not b ≡ true → b ≡ false
+of-not-true true e = sym e
+of-not-true false e = refl
+
+pub of-not-false : (b : Bool) → not b ≡ false → b ≡ true
+of-not-false true e = refl
+of-not-false false e = sym e
+
+pub same-truth : (a b : Bool) → (a ≡ true → b ≡ true) → (b ≡ true → a ≡ true) → a ≡ b
+same-truth true b f g = sym (f refl)
+same-truth false true f g = g refl
+same-truth false false f g = refl
+
+pub cond-true {ℓ} : {A : Type ℓ} {b : Bool} (x y : A) → b ≡ true → cond b x y ≡ x
+cond-true {b = true} x y e = refl
+cond-true {b = false} x y e = not-both e refl
+
+pub cond-false {ℓ} : {A : Type ℓ} {b : Bool} (x y : A) → b ≡ false → cond b x y ≡ y
+cond-false {b = true} x y e = not-both refl e
+cond-false {b = false} x y e = refl
+
+-- ---- the first marked place
+
+pub first-hit : (marked : ℕ → Bool) (a left : ℕ) → marked a ≡ true → first marked a (suc left) ≡ a
+unfolding first
+first-hit marked a left e = cond-true _ _ e
+
+pub first-miss : (marked : ℕ → Bool) (a left : ℕ) → marked a ≡ false → first marked a (suc left) ≡ first marked (suc a) left
+unfolding first
+first-miss marked a left e = cond-false _ _ e
+
+pub first-end : (marked : ℕ → Bool) (a : ℕ) → first marked a zero ≡ a
+unfolding first
+first-end marked a = refl
+
+pub first-low : (marked : ℕ → Bool) (a left : ℕ) → a ≤ first marked a left
+first-low marked a zero = omega (arith, first-end marked a)
+first-low marked a (suc left) =
+    bcase (marked a)
+    (λ e. omega (arith, first-hit marked a left e))
+    (λ e. omega (arith, first-miss marked a left e, first-low marked (suc a) left))
+
+pub first-high : (marked : ℕ → Bool) (a left : ℕ) → first marked a left ≤ a + left
+first-high marked a zero = omega (arith, first-end marked a)
+first-high marked a (suc left) =
+    bcase (marked a)
+    (λ e. omega (arith, first-hit marked a left e))
+    (λ e. omega (arith, first-miss marked a left e, first-high marked (suc a) left))
+
+-- a first place before the end is marked
+pub first-marked : (marked : ℕ → Bool) (a left : ℕ) → first marked a left < a + left → marked (first marked a left) ≡ true
+first-marked marked a zero h = absurd (omega (arith, first-end marked a))
+first-marked marked a (suc left) h =
+    bcase (marked a)
+    (λ e. ap marked (first-hit marked a left e) ∙ e)
+    (λ e.
+    ap marked (first-miss marked a left e)
+    ∙ first-marked marked (suc a) left (omega (arith, first-miss marked a left e)))
+
+-- what lies before the first marked place is not marked
+pub first-before : (marked : ℕ → Bool) (a left i : ℕ) → a ≤ i → i < first marked a left → marked i ≡ false
+first-before marked a zero i h k = absurd (omega (arith, first-end marked a))
+first-before marked a (suc left) i h k =
+    bcase (marked a)
+    (λ e. absurd (omega (arith, first-hit marked a left e)))
+    (λ e.
+    by-cases (ℕ-discrete a i)
+    (λ (q : a ≡ i). ap marked (sym q) ∙ e)
+    (λ q. first-before marked (suc a) left i (omega arith) (omega (arith, first-miss marked a left e))))
+
+-- a marked place with none before it is the first
+pub first-is : (marked : ℕ → Bool) (a left i : ℕ) → a ≤ i → i < a + left → marked i ≡ true
+    → ((j : ℕ) → a ≤ j → j < i → marked j ≡ false) → first marked a left ≡ i
+first-is marked a left i h k e none =
+    three-ways (first marked a left) i
+    (λ l. not-both (first-marked marked a left (omega arith)) (none (first marked a left) (first-low marked a left) l))
+    (λ q. q)
+    (λ g. not-both e (first-before marked a left i h g))
+
+-- no place marked: the end
+pub first-none : (marked : ℕ → Bool) (a left : ℕ) → ((j : ℕ) → a ≤ j → j < a + left → marked j ≡ false)
+    → first marked a left ≡ a + left
+first-none marked a left none =
+    lt-or-ge (first marked a left) (a + left)
+    (λ l. not-both (first-marked marked a left l) (none (first marked a left) (first-low marked a left) l))
+    (λ g. omega (arith, first-high marked a left))
+
+pub first-ext : (p q : ℕ → Bool) (a left : ℕ) → ((j : ℕ) → a ≤ j → j < a + left → p j ≡ q j) → first p a left ≡ first q a left
+first-ext p q a zero same = first-end p a ∙ sym (first-end q a)
+first-ext p q a (suc left) same =
+    bcase (p a)
+    (λ e. first-hit p a left e ∙ sym (first-hit q a left (sym (same a (omega arith) (omega arith)) ∙ e)))
+    (λ e.
+    first-miss p a left e
+    ∙ first-ext p q (suc a) left (λ j h k. same j (omega arith) (omega arith))
+    ∙ sym (first-miss q a left (sym (same a (omega arith) (omega arith)) ∙ e)))
+
+-- ---- some marked place
+
+pub some-hit : (marked : ℕ → Bool) (a left : ℕ) → marked a ≡ true → some marked a (suc left) ≡ true
+unfolding some
+some-hit marked a left e = cond-true _ _ e
+
+pub some-miss : (marked : ℕ → Bool) (a left : ℕ) → marked a ≡ false → some marked a (suc left) ≡ some marked (suc a) left
+unfolding some
+some-miss marked a left e = cond-false _ _ e
+
+pub some-end : (marked : ℕ → Bool) (a : ℕ) → some marked a zero ≡ false
+unfolding some
+some-end marked a = refl
+
+-- a marked place makes it true
+pub some-one : (marked : ℕ → Bool) (a left i : ℕ) → a ≤ i → i < a + left → marked i ≡ true → some marked a left ≡ true
+some-one marked a zero i h k e = absurd (omega arith)
+some-one marked a (suc left) i h k e =
+    bcase (marked a) (some-hit marked a left)
+    (λ m.
+    some-miss marked a left m
+    ∙ by-cases (ℕ-discrete a i)
+    (λ (q : a ≡ i). not-both (ap marked q ∙ e) m)
+    (λ q. some-one marked (suc a) left i (omega arith) (omega arith) e))
+
+-- where it is true there is one
+pub some-found : (marked : ℕ → Bool) (a left : ℕ) → some marked a left ≡ true
+    → (i : ℕ) × (a ≤ i) × (i < a + left) × (marked i ≡ true)
+some-found marked a zero t = not-both t (some-end marked a)
+some-found marked a (suc left) t =
+    bcase (marked a)
+    (λ e. (a, omega arith, omega arith, e))
+    (λ e.
+    let (i, h, k, m) = some-found marked (suc a) left (sym (some-miss marked a left e) ∙ t) in
+    (i, omega arith, omega arith, m))
+
+-- where it is false none is marked
+pub some-not : (marked : ℕ → Bool) (a left i : ℕ) → some marked a left ≡ false → a ≤ i → i < a + left → marked i ≡ false
+some-not marked a left i t h k = bcase (marked i) (λ e. not-both (some-one marked a left i h k e) t) (λ e. e)
+
+-- none marked makes it false
+pub some-none : (marked : ℕ → Bool) (a left : ℕ) → ((j : ℕ) → a ≤ j → j < a + left → marked j ≡ false) → some marked a left ≡ false
+some-none marked a left none =
+    bcase (some marked a left)
+    (λ t.
+    let (i, h, k, m) = some-found marked a left t in
+    not-both m (none i h k))
+    (λ f. f)
+
+pub some-ext : (p q : ℕ → Bool) (a left : ℕ) → ((j : ℕ) → a ≤ j → j < a + left → p j ≡ q j) → some p a left ≡ some q a left
+some-ext p q a zero same = some-end p a ∙ sym (some-end q a)
+some-ext p q a (suc left) same =
+    bcase (p a)
+    (λ e. some-hit p a left e ∙ sym (some-hit q a left (sym (same a (omega arith) (omega arith)) ∙ e)))
+    (λ e.
+    some-miss p a left e
+    ∙ some-ext p q (suc a) left (λ j h k. same j (omega arith) (omega arith))
+    ∙ sym (some-miss q a left (sym (same a (omega arith) (omega arith)) ∙ e)))
+
+-- one more place behind a run that has none
+pub some-last : (marked : ℕ → Bool) (a left : ℕ) → some marked a left ≡ false → marked (a + left) ≡ false
+    → some marked a (suc left) ≡ false
+some-last marked a left none e =
+    some-none marked a (suc left)
+    (λ j h k.
+    by-cases (ℕ-discrete j (a + left))
+    (λ (q : j ≡ a + left). ap marked q ∙ e)
+    (λ q. some-not marked a left j none h (omega arith)))
+
+-- ---- the least value
+
+pub least-most : (most k : ℕ) (f : ℕ → ℕ) → least most k f ≤ most
+unfolding least
+least-most most zero f = omega arith
+least-most most (suc k) f = omega (arith, least-most most k f)
+
+pub least-le : (most k : ℕ) (f : ℕ → ℕ) (i : ℕ) → i < k → least most k f ≤ f i
+unfolding least
+least-le most zero f i h = absurd (omega arith)
+least-le most (suc k) f i h =
+    by-cases (ℕ-discrete i k)
+    (λ (q : i ≡ k). omega (arith, ap f q))
+    (λ q. omega (arith, least-le most k f i (omega arith)))
+
+pub least-ge : (most k : ℕ) (f : ℕ → ℕ) (m : ℕ) → m ≤ most → ((i : ℕ) → i < k → m ≤ f i) → m ≤ least most k f
+unfolding least
+least-ge most zero f m h all = h
+least-ge most (suc k) f m h all =
+    omega (arith, all k (omega arith), least-ge most k f m h (λ i l. all i (omega arith)))
+
+-- the least value is `most`, or one of the values
+pub least-found : (most k : ℕ) (f : ℕ → ℕ) → least most k f < most → (i : ℕ) × (i < k) × (f i ≡ least most k f)
+unfolding least
+least-found most zero f h = absurd (omega arith)
+least-found most (suc k) f h =
+    lt-or-ge (least most k f) (f k)
+    (λ l.
+    let (i, b, e) = least-found most k f (omega arith) in
+    (i, omega arith, omega arith))
+    (λ g. (k, omega arith, omega arith))
+
+pub least-ext : (most k : ℕ) (f g : ℕ → ℕ) → ((i : ℕ) → i < k → f i ≡ g i) → least most k f ≡ least most k g
+unfolding least
+least-ext most zero f g same = refl
+least-ext most (suc k) f g same =
+    let one : f k ≡ g k = same k (omega arith) in
+    let rest : least most k f ≡ least most k g = least-ext most k f g (λ i h. same i (omega arith)) in
+    omega arith
+
+-- ---- tables
+
+pub length-table {ℓ} : {A : Type ℓ} (n : ℕ) (f : ℕ → A) → length (table n f) ≡ n
+unfolding table
+length-table zero f = refl
+length-table (suc n) f = ap suc (length-table n (λ i. f (suc i)))
+
+pub getD-table {ℓ} : {A : Type ℓ} (n : ℕ) (f : ℕ → A) (i : ℕ) (d : A) → i < n → getD (table n f) i d ≡ f i
+unfolding table
+getD-table zero f i d h = absurd (omega arith)
+getD-table (suc n) f zero d h = refl
+getD-table (suc n) f (suc i) d h = getD-table n (λ j. f (suc j)) i d (omega arith)
+
+-- a list with a table's length and elements is that table
+pub is-table {ℓ} : {A : Type ℓ} (d : A) (l : List A) (n : ℕ) (f : ℕ → A) → length l ≡ n
+    → ((i : ℕ) → i < n → getD l i d ≡ f i) → l ≡ table n f
+is-table d l n f e same =
+    ext-getD d l (table n f) (e ∙ sym (length-table n f))
+    (λ i h. same i (omega arith) ∙ sym (getD-table n f i d (omega arith)))
+
+pub table-ext {ℓ} : {A : Type ℓ} (n : ℕ) (f g : ℕ → A) → ((i : ℕ) → i < n → f i ≡ g i) → table n f ≡ table n g
+unfolding table
+table-ext zero f g same = refl
+table-ext (suc n) f g same =
+    let one : f zero ≡ g zero = same zero (omega arith) in
+    let rest : table n (λ i. f (suc i)) ≡ table n (λ i. g (suc i)) =
+    table-ext n (λ i. f (suc i)) (λ i. g (suc i)) (λ i h. same (suc i) (omega arith)) in
+    λ j. one j ∷ rest j
+
+-- ---- sums
+
+pub sum-append : (xs ys : List ℕ) → sum (xs ++ ys) ≡ sum xs + sum ys
+unfolding sum
+sum-append [] ys = omega arith
+sum-append (x ∷ xs) ys = omega (arith, sum-append xs ys)
+
+-- a stored element takes the old one's place in the sum
+pub sum-set : (xs : List ℕ) (i a : ℕ) → i < length xs → sum (set xs i a) + getD xs i 0 ≡ sum xs + a
+unfolding sum
+sum-set [] i a h = absurd (omega arith)
+sum-set (x ∷ xs) zero a h = omega arith
+sum-set (x ∷ xs) (suc i) a h = omega (arith, sum-set xs i a (omega arith))
+
+-- ---- one stored place
+
+-- after a store, a place holds what was stored if it is that place, and what it held if not
+pub at-set {ℓ} : {A : Type ℓ} (l : List A) (i j : ℕ) (a d x : A) → i < length l → (j ≡ i → a ≡ x)
+    → ((j ≡ i → ⊥) → getD l j d ≡ x) → getD (set l i a) j d ≡ x
+at-set l i j a d x h same other =
+    by-cases (ℕ-discrete j i)
+    (λ (q : j ≡ i). ap (λ (k : ℕ). getD (set l i a) k d) q ∙ getD-set-same l i a d h ∙ same q)
+    (λ q. getD-set-other l i j a d q ∙ other q)
+
+pub set-cases {ℓ} : {A : Type ℓ} (l : List A) (i j : ℕ) (a d : A) → i < length l
+    → ((j ≡ i) × (getD (set l i a) j d ≡ a)) ⊎ ((j ≡ i → ⊥) × (getD (set l i a) j d ≡ getD l j d))
+set-cases l i j a d h =
+    by-cases (ℕ-discrete j i)
+    (λ (q : j ≡ i). inl (q, ap (λ (k : ℕ). getD (set l i a) k d) q ∙ getD-set-same l i a d h))
+    (λ q. inr (q, getD-set-other l i j a d q))
+
+-- what is left shrinks by one
+pub less-one : {v n : ℕ} → v < n → n - v ≡ suc (n - (v + 1))
+less-one h = omega arith

@@ -1,0 +1,4 @@
+pub mod Counting
+pub mod DistVia
+pub mod Rule
+pub mod Walk
