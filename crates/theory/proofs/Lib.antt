@@ -3,3 +3,4 @@ pub mod DistVia
 pub mod Rule
 pub mod Walk
 pub mod Levels
+pub mod Answer
