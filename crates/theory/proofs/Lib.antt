@@ -1,2 +1,4 @@
 pub mod Counting
 pub mod DistVia
+pub mod DistWeight
+pub mod Distance
