@@ -7,3 +7,5 @@ pub mod Rule
 pub mod Walk
 pub mod Levels
 pub mod Answer
+pub mod Demand
+pub mod Spare
