@@ -7,3 +7,4 @@ pub mod Sample
 pub mod Rule
 pub mod Walk
 pub mod Levels
+pub mod Answer
