@@ -1,5 +1,6 @@
 pub mod Counting
 pub mod DistVia
+pub mod DistLeast
 pub mod DistWeight
 pub mod Distance
 pub mod DistPlain
