@@ -3,6 +3,8 @@ pub mod DistVia
 pub mod DistWeight
 pub mod Distance
 pub mod DistPlain
+pub mod Sample
 pub mod Rule
 pub mod Walk
 pub mod Levels
+pub mod Answer

@@ -133,9 +133,9 @@ row-rising B d h (suc r) v = rising-keep r (d (h r) v) (hubs B d h r (h r) v) (r
 
 module _ {B n : ℕ} {d : ℕ → ℕ → ℕ} (h : ℕ → ℕ) (𝓜 : Metric B n d) (inside : (r : ℕ) → r < n → h r < n) where
   -- no sum over another hub is less than the distance
-  pub hubs-ge : (k s t : ℕ) → k ≤ n → s < n → t < n → d s t ≤ hubs B d h k s t
+  pub never-less : (k s t : ℕ) → k ≤ n → s < n → t < n → d s t ≤ hubs B d h k s t
   unfolding hubs
-  hubs-ge k s t l p q =
+  never-less k s t l p q =
       least-ge B k _ (d s t) (𝓜 .cap s t p q)
       (λ w g. 𝓜 .via s (h w) t p (inside w (omega arith)) q)
 
