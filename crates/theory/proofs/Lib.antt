@@ -11,3 +11,4 @@ pub mod Levels
 pub mod Answer
 pub mod Demand
 pub mod Spare
+pub mod WalkRule
