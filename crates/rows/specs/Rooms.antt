@@ -27,6 +27,18 @@ roomTests n w labels counts = test (sizesFit n w) SIZE 0 then test (roomsFit n w
 unfoldable pub part : ℕ → List ℕ → ℕ → ℕ → List ℕ
 part w labels v count = take count (drop (v * w) labels)
 
+-- `count` entries of row v lie in a room: rows are below 4,096 and at most 256 wide, and the room goes so far
+unfoldable pub inRoom : ℕ → List ℕ → ℕ → ℕ → Bool
+inRoom w labels v count = ltb v 4096 && leb w 256 && leb (v * w + count) (length labels)
+
+-- `count` entries of row v, and none where they do not lie in the room
+unfoldable pub partOf : ℕ → List ℕ → ℕ → ℕ → List ℕ
+partOf w labels v count = cond (inRoom w labels v count) (part w labels v count) []
+
+-- where such a part starts in the label room: at its front where it does not lie in it
+unfoldable pub partStart : ℕ → List ℕ → ℕ → ℕ → ℕ
+partStart w labels v count = cond (inRoom w labels v count) (v * w) 0
+
 -- the used part of row v
 unfoldable pub rowAt : ℕ → List ℕ → List ℕ → ℕ → List ℕ
 rowAt w labels counts v = part w labels v (getD counts v 0)
