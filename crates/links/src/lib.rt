@@ -1,1 +1,23 @@
 // Links and hub order: the tests that stand before everything (1 to 5), and the order by degree.
+use refusal::Verdict;
+ghost use mathlib.Core.Path.{_≡_};
+ghost use Rattle.links.specs.Order.{checkOrder};
+
+mod once;
+mod refuse;
+
+// Check order: tests 1, 2 and 5 on an order of n frames.
+pub fn check_order(n: usize, order: &[u32]) -> Verdict
+    ensures { λ r. ⌜ r ≡ checkOrder n (now (order .entry)) ⌝ }
+{
+    if n < 1 {
+        return refuse::refused(refusal::SIZE, 0);
+    }
+    if 4096 < n {
+        return refuse::refused(refusal::SIZE, 0);
+    }
+    if order.len() != n {
+        return refuse::refused(refusal::LENGTH, 0);
+    }
+    once::each_once(n, order)
+}

@@ -32,6 +32,10 @@ unfoldable pub ruleRow : ℕ → (ℕ → ℕ → ℕ) → (ℕ → ℕ) → ℕ
 ruleRow B d h zero v = []
 ruleRow B d h (suc r) v = keep r (d (h r) v) (hubs B d h r (h r) v) (ruleRow B d h r v)
 
+-- the rows R with x in place of the row of v
+unfoldable pub instead : (ℕ → Row) → ℕ → Row → ℕ → Row
+instead R v x u = cond (eqb u v) x (R u)
+
 -- the rule in the paper's words: h reaches v, and no w of lower rank has d(h,w) + d(w,v) = d(h,v)
 pub record Rule (B : ℕ) (d : ℕ → ℕ → ℕ) (h : ℕ → ℕ) (r v : ℕ) : Type 0 where
   pub reach : d (h r) v < B
