@@ -1,0 +1,69 @@
+use Prim.Native.Nat.{ℕ, zero, suc, _+_, _-_, _*_, _/_, _%_, _^_, _≤_, _<_}
+use mathlib.Core.Path.{_≡_, refl, sym, ap, subst, _∙_}
+use mathlib.Core.List.{List, [], _∷_, _++_}
+use mathlib.Core.Logic.{_⊎_, inl, inr, ⊎-elim}
+use mathlib.Core.Bool.{Bool, true, false}
+use native.Mathlib.Omega.{arith}
+use borrow.Author.Needs.{needs}
+use lib.ListN.{length, getD, set, take, drop, length-set}
+use Rattle.blocks.proofs.compare.compare.Statement.{statement}
+use Rattle.blocks.proofs.compare.compare.Tie as tie
+use Rattle.blocks.proofs.compare.compare.Reads as reads
+use Rattle.blocks.proofs.compare.compare.Lts as lts
+use Rattle.blocks.proofs.compare.compare_row.Reads as compare-row-reads
+use Rattle.blocks.proofs.tally.Tally.built.Reads as built-reads
+use Rattle.blocks.proofs.tally.Tally.compared.Reads as compared-reads
+use Rattle.blocks.proofs.tally.Tally.unequal.Reads as unequal-reads
+
+abbrev Inv-loop : tie.InvT-loop
+Inv-loop n w k labels counts sums tally₀ s₀ tally s = Unit {0}
+
+abbrev μ-loop : tie.MeasureT-loop
+μ-loop n w k labels counts sums tally₀ s₀ tally s = n - s
+
+built-requires : tie.Need-built-requires Inv-loop μ-loop
+built-requires c κs = search needs
+
+loop-holds : tie.Need-loop-holds Inv-loop μ-loop
+loop-holds c = search needs
+
+compare-row-requires : tie.Need-compare-row-requires Inv-loop μ-loop
+compare-row-requires c κs = search needs
+
+unequal-requires : tie.Need-unequal-requires Inv-loop μ-loop
+unequal-requires c κs = search needs
+
+returns : tie.Need-returns Inv-loop μ-loop
+returns c = search needs
+
+compared-requires : tie.Need-compared-requires Inv-loop μ-loop
+compared-requires c κs = search needs
+
+add-s : tie.Need-add-s Inv-loop μ-loop
+add-s c = search needs
+
+loop-less : tie.Need-loop-less Inv-loop μ-loop
+loop-less c = search needs
+
+loop-again : tie.Need-loop-again Inv-loop μ-loop
+loop-again c = search needs
+
+returns-2 : tie.Need-returns-2 Inv-loop μ-loop
+returns-2 c = search needs
+
+pub compare-spec : {M : Type 1} → statement M
+compare-spec =
+    tie.close
+    (tie.spec
+    Inv-loop
+    μ-loop
+    built-requires
+    loop-holds
+    compare-row-requires
+    unequal-requires
+    returns
+    compared-requires
+    add-s
+    loop-less
+    loop-again
+    returns-2)

@@ -1,0 +1,67 @@
+use Prim.Native.Nat.{ℕ, zero, suc, _+_, _-_, _*_, _/_, _%_, _^_, _≤_, _<_}
+use mathlib.Core.Path.{_≡_, refl, sym, ap, subst, _∙_}
+use mathlib.Core.List.{List, [], _∷_, _++_}
+use mathlib.Core.Logic.{_⊎_, inl, inr, ⊎-elim}
+use mathlib.Core.Bool.{Bool, true, false}
+use native.Mathlib.Omega.{arith}
+use borrow.Author.Needs.{needs}
+use lib.ListN.{length, getD, set, take, drop, length-set}
+use Rattle.blocks.proofs.grid.lay_grid.Statement.{statement}
+use Rattle.blocks.proofs.grid.lay_grid.Tie as tie
+use Rattle.blocks.proofs.grid.lay_grid.Reads as reads
+use Rattle.blocks.proofs.grid.lay_grid.Lts as lts
+use Rattle.blocks.proofs.grid.lay_frame.Reads as lay-frame-reads
+use Rattle.blocks.proofs.room.push.Reads as push-reads
+
+abbrev Inv-loop : tie.InvT-loop
+Inv-loop starts₀ places₀ at₀ v₀ starts places at v = (length starts ≡ length starts₀) × (length places ≡ length places₀)
+
+abbrev μ-loop : tie.MeasureT-loop
+μ-loop starts₀ places₀ at₀ v₀ starts places at v = 4096 - v
+
+loop-holds : tie.Need-loop-holds Inv-loop μ-loop
+loop-holds c = search needs
+
+push-requires : tie.Need-push-requires Inv-loop μ-loop
+push-requires c κs = search needs
+
+lay-frame-requires : tie.Need-lay-frame-requires Inv-loop μ-loop
+lay-frame-requires c κs = search needs
+
+add-v : tie.Need-add-v Inv-loop μ-loop
+add-v c = search needs
+
+loop-less : tie.Need-loop-less Inv-loop μ-loop
+loop-less c = search needs
+
+loop-again : tie.Need-loop-again Inv-loop μ-loop
+loop-again c = search needs
+
+push-requires-2 : tie.Need-push-requires-2 Inv-loop μ-loop
+push-requires-2 c κs = search needs
+
+same-length : tie.Need-same-length Inv-loop μ-loop
+same-length c = search needs
+
+same-length-2 : tie.Need-same-length-2 Inv-loop μ-loop
+same-length-2 c = search needs
+
+returns : tie.Need-returns Inv-loop μ-loop
+returns c = search needs
+
+pub lay-grid-spec : {M : Type 1} → statement M
+lay-grid-spec =
+    tie.close
+    (tie.spec
+    Inv-loop
+    μ-loop
+    loop-holds
+    push-requires
+    lay-frame-requires
+    add-v
+    loop-less
+    loop-again
+    push-requires-2
+    same-length
+    same-length-2
+    returns)

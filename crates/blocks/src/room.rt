@@ -1,0 +1,29 @@
+// One place of a room, read and stored: past the end a read is 0 and a store does nothing, so that no caller owes a bound.
+
+pub fn get(room: &[u32], at: usize) -> u32 {
+    if at < room.len() { room[at] } else { 0 }
+}
+
+pub fn put(room: &mut [u32], at: usize, value: u32) {
+    if at < room.len() {
+        room[at] = value;
+    }
+}
+
+// Stores a number behind the ones before it; the place behind it.
+pub fn push(room: &mut [u32], at: usize, value: usize) -> usize {
+    if at < room.len() {
+        room[at] = (value % 65536) as u32;
+        return at + 1;
+    }
+    at
+}
+
+// Every place of a room set to one value.
+pub fn fill(room: &mut [u32], value: u32) {
+    let mut at = 0;
+    while at < room.len() {
+        room[at] = value;
+        at += 1;
+    }
+}
