@@ -77,6 +77,14 @@ within noted row level = some (λ i. leb (joinsOf (getD row i 0) + getD noted (r
 unfoldable pub drops : ℕ → List ℕ → List ℕ → List ℕ → ℕ → ℕ → Bool
 drops w labels counts noted u level = within noted (rowAt w labels counts u) level
 
+-- what meeting the neighbours of u needs: a block, and room for frame numbers
+pub record MeetIn (S L : List ℕ) (u x : ℕ) (met queue : List ℕ) (t : ℕ) : Type 0 where
+  pub block : Block (length met) 1 S L ones
+  pub frames : length met ≤ 4096
+  pub frame : u < length met
+  pub some : 0 < x
+  pub line : Queue met queue t
+
 -- The frames in the list of u from its start up to place `upto` are met: those not met before at x, behind the old queue.
 pub record Grown (S L : List ℕ) (u upto x : ℕ) (met queue : List ℕ) (t : ℕ) (met' queue' : List ℕ) (t' : ℕ) : Type 0 where
   pub line : Queue met' queue' t'

@@ -2,10 +2,10 @@
 // that is kept, and 65,536 more than that for one that is dropped. It only reads the rows, so the table of the hub's joins
 // by rank is good for the whole of it.
 ghost use mathlib.Core.Path.{_≡_};
-ghost use Prim.Native.Nat.{ℕ, _<_};
+ghost use Prim.Native.Nat.{ℕ, _+_, _<_};
 ghost use lib.ListN.{length, getD};
 ghost use Rattle.rows.specs.Entry.{rankOf};
-ghost use Rattle.build.specs.Explore.{within, notedBy, forgotten};
+ghost use Rattle.build.specs.Explore.{within, notedBy, forgotten, MeetIn, Grown};
 use rows::entry::Entry;
 use rows::entry::joins_of;
 use rows::entry::rank_of;
@@ -61,4 +61,27 @@ fn near(row: &[Entry], noted: &[u32], level: usize) -> bool
         i += 1;
     }
     false
+}
+
+// Meets the frames in the list of u that are not met yet, at `x`, and puts them behind the queue; gives back its new end.
+fn meet(starts: &[u32], places: &[u32], u: usize, x: u32, met: &mut [u32], queue: &mut [u32], tail: usize) -> usize
+    requires { ⌜ MeetIn (now starts) (now places) u x (now met) (now queue) tail ⌝ }
+    ensures { λ r. ⌜
+        Grown (now (starts .entry)) (now (places .entry)) u (getD (now (starts .entry)) (u + 1) 0) x
+            (now (met .entry)) (now (queue .entry)) tail (now (met .exit)) (now (queue .exit)) r
+    ⌝ }
+{
+    let end = starts[u + 1] as usize;
+    let mut at = starts[u] as usize;
+    let mut grown = tail;
+    while at < end {
+        let v = places[at] as usize;
+        at += 1;
+        if met[v] == 0 {
+            met[v] = x;
+            queue[grown] = v as u32;
+            grown += 1;
+        }
+    }
+    grown
 }
