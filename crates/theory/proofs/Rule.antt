@@ -12,7 +12,7 @@ use lib.ListN.{length, getD, length-append, List·getD-append}
 use lib.Dec.{ltb}
 use borrow.Author.Tests.{lt-ltb, le-ltb}
 use Rattle.basics.specs.Places.{least}
-use Rattle.basics.proofs.Laws.{by-cases, cases, lt-or-ge, least-most, least-le, least-ge}
+use Rattle.basics.proofs.Laws.{by-cases, cases, lt-or-ge, cond-true, cond-false, least-most, least-le, least-ge}
 use Rattle.theory.specs.Rows.{Row, Rule, Metric, hubs, keep, ruleRow}
 
 -- the row has (r, m)
@@ -21,13 +21,13 @@ In r m x = List·Memᴰ (r, m) x
 
 -- ---- keeping
 
-pub keep-yes : (r m p : ℕ) (x : Row) → m < p → keep r m p x ≡ x ++ ((r, m) ∷ [])
-unfolding keep
-keep-yes r m p x h = rw (lt-ltb m p h)
-
 pub keep-not : (r m p : ℕ) (x : Row) → p ≤ m → keep r m p x ≡ x
 unfolding keep
-keep-not r m p x h = rw (le-ltb m p h)
+keep-not r m p x h = cond-false (x ++ ((r, m) ∷ [])) x (le-ltb m p h)
+
+pub keep-yes : (r m p : ℕ) (x : Row) → m < p → keep r m p x ≡ x ++ ((r, m) ∷ [])
+unfolding keep
+keep-yes r m p x h = cond-true (x ++ ((r, m) ∷ [])) x (lt-ltb m p h)
 
 pub keep-append : (r m p : ℕ) (x : Row) → keep r m p x ≡ x ++ keep r m p []
 keep-append r m p x =
@@ -133,7 +133,7 @@ rising-keep r m p x s =
 pub row-rising : (B : ℕ) (d : ℕ → ℕ → ℕ) (h : ℕ → ℕ) (k v : ℕ) → Rising k (ruleRow B d h k v)
 unfolding ruleRow
 row-rising B d h zero v = record { below = λ i l. absurd (omega arith); rise = λ i j g l. absurd (omega arith) }
-row-rising B d h (suc r) v = rising-keep r (d (h r) v) (hubs B d h r (h r) v) (ruleRow B d h r v) (row-rising B d h r v)
+row-rising B d h (suc r) v = rising-keep r _ _ _ (row-rising B d h r v)
 
 -- ---- the rule
 
@@ -165,18 +165,6 @@ module _ {B n : ℕ} {d : ℕ → ℕ → ℕ} (h : ℕ → ℕ) (𝓜 : Metric 
             alone = λ w g e. omega (arith, least-le B r (λ z. d (h r) (h z) + d (h z) v) w g);
           }
 
-  row-gives : (k v : ℕ) → k ≤ n → v < n → {r m : ℕ} → In r m (ruleRow B d h k v)
-      → (r < k) × Rule B d h r v × (m ≡ d (h r) v)
-  unfolding ruleRow
-  row-gives zero v l q mem = absurd (List·Memᴰ·not-nil mem)
-  row-gives (suc k) v l q {r} {m} mem =
-      keep-cases k (d (h k) v) (hubs B d h k (h k) v) (ruleRow B d h k v) mem
-      (λ old.
-      let (a, b, c) = row-gives k v (omega arith) q old in
-      (omega arith, b, c))
-      (λ less e f.
-      (omega arith, subst (λ (z : ℕ). Rule B d h z v) (sym e) (rule-lt k v l q .1 less), f ∙ ap (λ (z : ℕ). d (h z) v) (sym e)))
-
   row-takes : (k v : ℕ) → k ≤ n → v < n → (r : ℕ) → r < k → Rule B d h r v → In r (d (h r) v) (ruleRow B d h k v)
   unfolding ruleRow
   row-takes zero v l q r g rule = absurd (omega arith)
@@ -184,11 +172,23 @@ module _ {B n : ℕ} {d : ℕ → ℕ → ℕ} (h : ℕ → ℕ) (𝓜 : Metric 
       by-cases (ℕ-discrete r k)
       (λ (e : r ≡ k).
       subst (λ (z : ℕ). In z (d (h z) v) (ruleRow B d h (suc k) v)) (sym e)
-      (keep-new k (d (h k) v) (hubs B d h k (h k) v) (ruleRow B d h k v)
+      (keep-new k _ _ _
       (rule-lt k v l q .0 (subst (λ (z : ℕ). Rule B d h z v) e rule))))
       (λ e.
-      keep-old k (d (h k) v) (hubs B d h k (h k) v) (ruleRow B d h k v)
+      keep-old k _ _ _
       (row-takes k v (omega arith) q r (omega arith) rule))
+
+  row-gives : (k v : ℕ) → k ≤ n → v < n → {r m : ℕ} → In r m (ruleRow B d h k v)
+      → (r < k) × Rule B d h r v × (m ≡ d (h r) v)
+  unfolding ruleRow
+  row-gives zero v l q mem = absurd (List·Memᴰ·not-nil mem)
+  row-gives (suc k) v l q {r} {m} mem =
+      keep-cases k _ _ _ mem
+      (λ old.
+      let (a, b, c) = row-gives k v (omega arith) q old in
+      (omega arith, b, c))
+      (λ less e f.
+      (omega arith, subst (λ (z : ℕ). Rule B d h z v) (sym e) (rule-lt k v l q .1 less), f ∙ ap (λ (z : ℕ). d (h z) v) (sym e)))
 
   -- what a row holds: exactly what the rule lets in
   pub in-row : (k v : ℕ) → k ≤ n → v < n → {r m : ℕ}
