@@ -1,14 +1,14 @@
 -- Demand 3 over any penalties: the answer is the least sum of a chain through one of the first k hubs; it is never below
 -- the distance and exceeds it by at most twice the way to any of these hubs; at k = n it is the distance; and no entry is
 -- spare. All but the last read the answer as the least sum over hubs.
-use Prim.Native.Nat.{ℕ, zero, suc, _+_, _*_, _≤_, _<_}
-use mathlib.Core.Path.{_≡_, refl, sym, ap, subst, _∙_}
+use Prim.Native.Nat.{ℕ, _+_, _*_, _≤_, _<_}
+use mathlib.Core.Path.{_≡_, sym, subst}
 use native.Mathlib.Omega.{arith}
 use Rattle.basics.specs.Places.{least}
 use Rattle.basics.proofs.Laws.{lt-or-ge, least-found}
-use Rattle.theory.specs.Chains.{Chain, Through, Count, joins, none, Least}
+use Rattle.theory.specs.Chains.{Chain, Through, Least}
 use Rattle.theory.specs.Distance.{said}
-use Rattle.theory.specs.Rows.{Row, Metric, answer, hubs, ruleRow}
+use Rattle.theory.specs.Rows.{Metric, answer, hubs, ruleRow}
 use Rattle.theory.proofs.Rule.{never-less}
 use Rattle.theory.proofs.Answer.{answer-cap, answer-hubs, hubs-le, hubs-found, said-least}
 

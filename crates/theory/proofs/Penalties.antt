@@ -3,18 +3,18 @@
 use Prim.Native.Nat.{ℕ, suc, _+_, _-_, _*_, _≤_, _<_}
 use mathlib.Core.Path.{_≡_, _∙_}
 use mathlib.Core.Logic.{_↔_}
-use mathlib.Core.List.{List, [], _∷_, _++_}
+use mathlib.Core.List.{List, _∷_, _++_}
 use native.Mathlib.Omega.{arith}
 use Rattle.basics.specs.Places.{least}
 use Rattle.theory.specs.Links.{Link, Block, Order, hubOf}
-use Rattle.theory.specs.Chains.{Chain, Through, Least}
+use Rattle.theory.specs.Chains.{Through, Least}
 use Rattle.theory.specs.Distance.{far, weight, dist, said}
-use Rattle.theory.specs.Rows.{Row, Rule, answer, keep, ruleRow, instead}
+use Rattle.theory.specs.Rows.{Row, In, Rule, answer, keep, ruleRow, instead}
 use Rattle.theory.specs.Walk.{Met}
 use Rattle.theory.proofs.Counting.{ranks-all}
 use Rattle.theory.proofs.DistWeight.{weight-one}
 use Rattle.theory.proofs.Distance.{far-one, dist-chain, dist-least, dist-reach, dist-step, dist-last, dist-bound, dist-metric}
-use Rattle.theory.proofs.Rule.{In, in-row, own-entry, no-higher, joins-most}
+use Rattle.theory.proofs.Rule.{in-row, own-entry, no-higher, joins-most}
 use Rattle.theory.proofs.Answer.{answer-hubs}
 use Rattle.theory.proofs.Demand.{Shortest, fewest, never-below, near, true-count}
 use Rattle.theory.proofs.Spare.{spare}

@@ -1,6 +1,6 @@
 -- The plain index, every join counted as 1, in the paper's own words: demand 3 in fewest joins, what a row holds, and that
 -- the walks level by level make the rows of the rule.
-use Prim.Native.Nat.{ℕ, zero, suc, _+_, _-_, _*_, _≤_, _<_}
+use Prim.Native.Nat.{ℕ, zero, suc, _+_, _*_, _≤_, _<_}
 use mathlib.Core.Path.{_≡_, refl, sym, ap, subst, _∙_}
 use mathlib.Core.Logic.{_↔_}
 use mathlib.Core.List.{List, [], _∷_, _++_}
@@ -10,24 +10,20 @@ use lib.ListN.{length, length-append}
 use Rattle.basics.specs.Places.{least}
 use Rattle.basics.proofs.Laws.{by-cases}
 use Rattle.theory.specs.Links.{Link, Block, Order, hubOf}
-use Rattle.theory.specs.Chains.{Chain, Through, Least, ChainOf, ThroughOf}
-use Rattle.theory.specs.Distance.{far, weight, dist, said}
-use Rattle.theory.specs.Rows.{Row, Rule, Metric, answer, hubs, keep, ruleRow, instead}
+use Rattle.theory.specs.Chains.{Least, ChainOf, ThroughOf}
+use Rattle.theory.specs.Distance.{far, said}
+use Rattle.theory.specs.Rows.{Row, In, Shared, Rule, Metric, answer, hubs, keep, ruleRow, instead}
 use Rattle.theory.specs.Walk.{Met, walkRow, walks}
-use Rattle.theory.specs.Plain.{ones, joined, joinsTo, rowBy}
+use Rattle.theory.specs.Plain.{ones, joined, joinsTo, rowBy, answerBy}
 use Rattle.theory.proofs.DistLeast.{least-same}
 use Rattle.theory.proofs.DistVia.{chain-sum}
 use Rattle.theory.proofs.DistPlain.{plain-weight, chain-links, joins-is, joins-below}
 use Rattle.theory.proofs.Distance.{dist-metric}
-use Rattle.theory.proofs.Rule.{In, Rising, row-rising, keep-append}
-use Rattle.theory.proofs.Answer.{answer-hubs, hubs-cap}
+use Rattle.theory.proofs.Rule.{Rising, row-rising, keep-append}
+use Rattle.theory.proofs.Answer.{literal, answer-hubs, hubs-cap}
 use Rattle.theory.proofs.Levels.{oneEach}
 use Rattle.theory.proofs.WalkRule.{Steps, met-rule, walk-rule, walks-rule}
-use Rattle.theory.proofs.Penalties.{sumRow, sumAnswer, dist-steps, sums-fewest, sums-never-below, sums-near, sums-true, sums-spare, sums-in-row, sums-own, sums-no-higher, sums-upto}
-
--- the answer for (s,t) from the rows at stop k
-abbrev pub answerBy : ℕ → List ℕ → List ℕ → List ℕ → ℕ → ℕ → ℕ → ℕ
-answerBy n S L O k s t = answer (far 1 n) n (rowBy n S L O k s) (rowBy n S L O k t)
+use Rattle.theory.proofs.Penalties.{sumAnswer, dist-steps, sums-fewest, sums-never-below, sums-near, sums-true, sums-spare, sums-in-row, sums-own, sums-no-higher, sums-upto}
 
 -- ---- rows of any block, sound or not
 
@@ -70,6 +66,17 @@ row-longer n S L O r (suc k) v h =
 pub far-room : (n : ℕ) → n < far 1 n
 unfolding far
 far-room n = omega arith
+
+-- any two rows with ranks and joins below n: the answer is the least sum of joins over ranks found in both, none if no
+-- rank is shared
+pub plain-literal : (n : ℕ) (x y : Row) → ((r m : ℕ) → In r m x → (r < n) × (m < n)) → ((r m : ℕ) → In r m y → m < n)
+    → Least (Shared x y) (said (far 1 n) (answer (far 1 n) n x y))
+unfolding far
+plain-literal n x y first second =
+    literal (far 1 n) n x y (λ r m z. first r m z .0)
+    (λ m s.
+    omega
+    (arith, first (s .rank) (s .first) (s .in-first) .1, second (s .rank) (s .second) (s .in-second), s .whole))
 
 module _ {n : ℕ} {S L : List ℕ} (block : Block n 1 S L ones) where
   pub plain-metric : Metric (far 1 n) n (joinsTo n S L)

@@ -1,23 +1,17 @@
 -- The row rule: `ruleRow` holds exactly what the paper's words let in. A hub's joins to v are below every sum over
 -- lower ranks exactly if no such sum equals them (no sum is less, by the way round); rows are made rank by rank, so
 -- ranks rise.
-use Prim.Native.Nat.{ℕ, zero, suc, _+_, _≤_, _<_, min}
+use Prim.Native.Nat.{ℕ, zero, suc, _+_, _≤_, _<_}
 use mathlib.Core.Path.{_≡_, refl, sym, ap, subst, _∙_}
 use mathlib.Core.Logic.{_↔_}
-use mathlib.Core.Bool.{Bool, true, false, cond}
-use mathlib.Core.List.{List, [], _∷_, _++_, append-nil, List·Memᴰ, List·Memᴰ·head, List·Memᴰ·tail, List·Memᴰ·cases-cons, List·Memᴰ·append-cases, List·Memᴰ·eq-of-singleton, List·Memᴰ·not-nil, Memᴰ·append-left, Memᴰ·append-right}
-use native.Mathlib.Decide.{decLt, ℕ-discrete}
+use mathlib.Core.List.{[], _∷_, _++_, append-nil, List·Memᴰ·head, List·Memᴰ·tail, List·Memᴰ·cases-cons, List·Memᴰ·append-cases, List·Memᴰ·eq-of-singleton, List·Memᴰ·not-nil, Memᴰ·append-left, Memᴰ·append-right}
+use native.Mathlib.Decide.{ℕ-discrete}
 use native.Mathlib.Omega.{arith}
 use lib.ListN.{length, getD, length-append, List·getD-append}
-use lib.Dec.{ltb}
 use borrow.Author.Tests.{lt-ltb, le-ltb}
 use Rattle.basics.specs.Places.{least}
 use Rattle.basics.proofs.Laws.{by-cases, cases, lt-or-ge, cond-true, cond-false, least-most, least-le, least-ge}
-use Rattle.theory.specs.Rows.{Row, Rule, Metric, hubs, keep, ruleRow}
-
--- the row has (r, m)
-abbrev pub In : ℕ → ℕ → Row → Type 0
-In r m x = List·Memᴰ (r, m) x
+use Rattle.theory.specs.Rows.{Row, In, Rule, Metric, hubs, keep, ruleRow}
 
 -- ---- keeping
 
