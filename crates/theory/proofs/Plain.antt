@@ -19,7 +19,7 @@ use Rattle.theory.proofs.DistLeast.{least-same}
 use Rattle.theory.proofs.DistVia.{chain-sum}
 use Rattle.theory.proofs.DistPlain.{plain-weight, chain-links, joins-is, joins-below}
 use Rattle.theory.proofs.Distance.{dist-metric}
-use Rattle.theory.proofs.Rule.{Rising, row-rising, keep-append}
+use Rattle.theory.proofs.Rule.{Rising, rankAt, joinsAt, place-in, row-rising, rising-length, keep-append}
 use Rattle.theory.proofs.Answer.{literal, answer-hubs, hubs-cap}
 use Rattle.theory.proofs.Levels.{oneEach}
 use Rattle.theory.proofs.WalkRule.{Steps, met-rule, walk-rule, walks-rule}
@@ -31,6 +31,10 @@ use Rattle.theory.proofs.Penalties.{sumAnswer, dist-steps, sums-fewest,
 pub plain-rising : (n : ℕ) (S L O : List ℕ) (k v : ℕ) → Rising k (rowBy n S L O k v)
 unfolding rowBy
 plain-rising n S L O k v = row-rising (far 1 n) (joinsTo n S L) (hubOf O) k v
+
+-- at most one entry for each hub
+pub plain-length : (n : ℕ) (S L O : List ℕ) (k v : ℕ) → length (rowBy n S L O k v) ≤ k
+plain-length n S L O k v = rising-length (plain-rising n S L O k v)
 
 pub row-none : (n : ℕ) (S L O : List ℕ) (v : ℕ) → rowBy n S L O zero v ≡ []
 unfolding rowBy ruleRow
@@ -177,6 +181,13 @@ module _ {n : ℕ} {S L : List ℕ} (block : Block n 1 S L ones) where
     pub plain-joins : (k v r m : ℕ) → k ≤ n → v < n → In r m (rowBy n S L O k v) → m < n
     unfolding rowBy joinsTo
     plain-joins k v r m l p mem = omega (arith, sums-upto block order k v r m l p mem)
+
+    -- so at each place of a row
+    pub plain-places : (k v i : ℕ) → k ≤ n → v < n → i < length (rowBy n S L O k v)
+        → (rankAt (rowBy n S L O k v) i < k) × (joinsAt (rowBy n S L O k v) i < n)
+    plain-places k v i l p h =
+        let x : Row = rowBy n S L O k v in
+        (plain-rising n S L O k v .below i h, plain-joins k v (rankAt x i) (joinsAt x i) l p (place-in x i h))
 
     -- an entry that the rule lets in has fewer joins than there are frames
     pub plain-small : (r v : ℕ) → r < n → v < n

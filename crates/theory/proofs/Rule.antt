@@ -123,6 +123,15 @@ rising-keep r m p x s =
     (λ h. subst (Rising (suc r)) (sym (keep-yes r m p x h)) (rising-snoc r m x s))
     (λ h. subst (Rising (suc r)) (sym (keep-not r m p x h)) (rising-more (omega arith) s))
 
+-- a row of rising ranks is no longer than its bound
+rising-at : {k : ℕ} {x : Row} → Rising k x → (i : ℕ) → i < length x → i ≤ rankAt x i
+rising-at s zero h = omega arith
+rising-at s (suc i) h = omega (arith, rising-at s i (omega arith), s .rise i (suc i) (omega arith) h)
+
+pub rising-length : {k : ℕ} {x : Row} → Rising k x → length x ≤ k
+rising-length {x = []} s = omega arith
+rising-length {x = e ∷ x} s = omega (arith, rising-at s (length x) (omega arith), s .below (length x) (omega arith))
+
 -- ranks of a row by the rule strictly rise, below the stop
 pub row-rising : (B : ℕ) (d : ℕ → ℕ → ℕ) (h : ℕ → ℕ) (k v : ℕ) → Rising k (ruleRow B d h k v)
 unfolding ruleRow
@@ -166,7 +175,7 @@ module _ {B n : ℕ} {d : ℕ → ℕ → ℕ} (h : ℕ → ℕ) (𝓜 : Metric 
       by-cases (ℕ-discrete r k)
       (λ (e : r ≡ k).
       subst (λ (z : ℕ). In z (d (h z) v) (ruleRow B d h (suc k) v)) (sym e)
-      (keep-new k _ _ _
+      (keep-new k (d (h k) v) _ (ruleRow B d h k v)
       (rule-lt k v l q .0 (subst (λ (z : ℕ). Rule B d h z v) e rule))))
       (λ e.
       keep-old k _ _ _
