@@ -11,3 +11,6 @@ pub mod Levels
 pub mod Answer
 pub mod Demand
 pub mod Spare
+pub mod WalkRule
+pub mod Penalties
+pub mod Plain
