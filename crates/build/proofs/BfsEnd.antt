@@ -25,9 +25,9 @@ unfoldable pub levelIn : ℕ → List ℕ → ℕ → ℕ
 levelIn B M v = cond (ltb 0 (getD M v 0)) (levelAt M v - 1) B
 
 module _ {n : ℕ} {S L : List ℕ} (block : Block n 1 S L ones) {drop : ℕ → ℕ → Bool} {hub : ℕ} (inside : hub < n)
-  {M Q : List ℕ} {t : ℕ} (b : Bfs n S L drop hub M Q t t) (B : ℕ) (above : n < B) (P : ℕ → ℕ)
-  (capped : (u : ℕ) → P u ≤ B)
-  (test : (u level : ℕ) → u < n → level < n → drop u level ≡ leb (P u) level) where
+    {M Q : List ℕ} {t : ℕ} (b : Bfs n S L drop hub M Q t t) (B : ℕ) (above : n < B) (P : ℕ → ℕ)
+    (capped : (u : ℕ) → P u ≤ B)
+    (test : (u level : ℕ) → u < n → level < n → drop u level ≡ leb (P u) level) where
   not-met : (v : ℕ) → getD M v 0 ≡ 0 → levelIn B M v ≡ B
   unfolding levelIn
   not-met v e = cond-false _ _ (le-ltb 0 (getD M v 0) (omega arith))

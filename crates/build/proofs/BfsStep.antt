@@ -58,7 +58,7 @@ parent-stays c v m p =
     }
 
 module _ {n : ℕ} {S L : List ℕ} {drop : ℕ → ℕ → Bool} {hub : ℕ} {M Q : List ℕ} {h t : ℕ}
-  (b : Bfs n S L drop hub M Q h t) (more : h < t) where
+    (b : Bfs n S L drop hub M Q h t) (more : h < t) where
   -- another place of the queue holds another frame
   apart : (i : ℕ) → i < t → (i ≡ h → ⊥) → getD Q i 0 ≡ getD Q h 0 → ⊥
   apart i p q e =
@@ -67,9 +67,20 @@ module _ {n : ℕ} {S L : List ℕ} {drop : ℕ → ℕ → Bool} {hub : ℕ} {M
       (λ l. q l)
       (λ l. b .line .is .once h i l p (sym e))
 
+  -- the frame at h is met, not marked, and its level is below n
+  pub head-in : getD Q h 0 < n
+  head-in = omega (arith, b .line .is .low h more, b .long)
+
+  pub head-met : 1 ≤ getD M (getD Q h 0) 0
+  head-met = b .line .is .marked h more
+
+  pub head-low : getD M (getD Q h 0) 0 ≤ n
+  head-low = omega (arith, b .plain h (omega arith) more, b .short h more, b .line .is .few, b .long)
+
   -- ---- dropped
 
-  module _ (x : ℕ) (is : getD M (getD Q h 0) 0 ≡ x) (hit : drop (getD Q h 0) (x - 1) ≡ true) where
+  module _ (x : ℕ) (is : getD M (getD Q h 0) 0 ≡ x) {r : Bool} (says : r ≡ drop (getD Q h 0) (x - 1))
+      (hit : r ≡ true) where
     inside : getD Q h 0 < length M
     inside = b .line .is .low h more
 
@@ -157,12 +168,13 @@ module _ {n : ℕ} {S L : List ℕ} {drop : ℕ → ℕ → Bool} {hub : ℕ} {M
           least = λ i p. omega (arith, level (getD Q i 0), b .least i p);
           rise = λ i j p q. omega (arith, level (getD Q i 0), level (getD Q j 0), b .rise i j p q);
           near = λ j p q.
-              omega
-              (arith,
-              level (getD Q j 0),
-              level (getD Q (h + 1) 0),
-              b .near j more q,
-              b .rise h (h + 1) (omega arith) p);
+              omega (
+                arith,
+                level (getD Q j 0),
+                level (getD Q (h + 1) 0),
+                b .near j more q,
+                b .rise h (h + 1) (omega arith) p,
+              );
           short = λ j p. omega (arith, level (getD Q j 0), b .short j p);
           plain = λ j p q. omega (arith, same j q (λ e. omega arith), b .plain j (omega arith) q);
           reason = λ j p.
@@ -180,6 +192,7 @@ module _ {n : ℕ} {S L : List ℕ} {drop : ℕ → ℕ → Bool} {hub : ℕ} {M
                 found =
                     ap (λ (l : ℕ). drop (getD Q h 0) l)
                     (let l : levelAt M' (getD Q h 0) - 1 ≡ x - 1 = omega (arith, here, not-marked) in l)
+                    ∙ sym says
                     ∙ hit;
               })))
               (λ q.
@@ -188,9 +201,10 @@ module _ {n : ℕ} {S L : List ℕ} {drop : ℕ → ℕ → Bool} {hub : ℕ} {M
 
   -- ---- kept
 
-  module _ (x : ℕ) (is : getD M (getD Q h 0) 0 ≡ x) (free : drop (getD Q h 0) (x - 1) ≡ false) (frames : n ≤ 4096)
-    {M' Q' : List ℕ} {t' : ℕ}
-    (g : Grown S L (getD Q h 0) (getD S (getD Q h 0 + 1) 0) (x + 1) M Q t M' Q' t') where
+  module _ (x : ℕ) (is : getD M (getD Q h 0) 0 ≡ x) {r : Bool} (says : r ≡ drop (getD Q h 0) (x - 1))
+      (free : r ≡ false) (frames : n ≤ 4096)
+      {M' Q' : List ℕ} {t' : ℕ}
+      (g : Grown S L (getD Q h 0) (getD S (getD Q h 0 + 1) 0) (x + 1) M Q t M' Q' t') where
     old-met : (i : ℕ) → i < t → getD M' (getD Q i 0) 0 ≡ getD M (getD Q i 0) 0
     old-met i p = g .old (getD Q i 0) (b .line .is .marked i p)
 
@@ -247,7 +261,7 @@ module _ {n : ℕ} {S L : List ℕ} {drop : ℕ → ℕ → Bool} {hub : ℕ} {M
         let lev : levelAt M' (getD Q h 0) ≡ x = level-of (getD Q h 0) (b .line .is .marked h more) ∙ own in
         record {
           plain = omega (arith, old-met h more, is, few);
-          free = ap (λ (l : ℕ). drop (getD Q h 0) (l - 1)) lev ∙ free;
+          free = ap (λ (l : ℕ). drop (getD Q h 0) (l - 1)) lev ∙ sym says ∙ free;
           met-all = met-next;
           next = λ v l. omega (arith, level-next v (low v l) (met-next v l));
         }

@@ -1,6 +1,9 @@
 pub mod BfsQueue
 pub mod BfsGrown
 pub mod BfsStep
+pub mod BfsStart
 pub mod BfsEnd
+pub mod BfsWalk
 pub mod DropNotes
 pub mod DropWithin
+pub mod DropRow

@@ -113,10 +113,11 @@ loop-again : tie.Need-loop-again Inv-loop μ-loop
 loop-again c =
     let s = c .before .before .before .before .before .before .before in
     let l = c .before .before .before .before .loop in
-    let turn = c .before .before .before in
-    (omega arith,
-    omega (arith, turn .loop-test .taken),
-    grown-new _ _ _ _ (l .inv .2) _ refl (l .inv .0) (turn .loop-test .taken) (frame-in turn) (c .if1 .taken) (s .pre .some))
+    let turn = c .before .before .before in (
+      omega arith,
+      omega (arith, turn .loop-test .taken),
+      grown-new _ _ _ _ (l .inv .2) _ refl (l .inv .0) (turn .loop-test .taken) (frame-in turn) (c .if1 .taken) (s .pre .some),
+    )
 
 loop-less-2 : tie.Need-loop-less-2 Inv-loop μ-loop
 loop-less-2 c = omega arith
@@ -124,10 +125,11 @@ loop-less-2 c = omega arith
 loop-again-2 : tie.Need-loop-again-2 Inv-loop μ-loop
 loop-again-2 c =
     let l = c .before .before .before .before .loop in
-    let turn = c .before .before .before in
-    (omega arith,
-    omega (arith, turn .loop-test .taken),
-    grown-old _ _ _ _ (l .inv .2) _ refl (omega (arith, c .if1 .left)))
+    let turn = c .before .before .before in (
+      omega arith,
+      omega (arith, turn .loop-test .taken),
+      grown-old _ _ _ _ (l .inv .2) _ refl (omega (arith, c .if1 .left)),
+    )
 
 same-length : tie.Need-same-length Inv-loop μ-loop
 same-length c = c .before .loop .inv .2 .long
