@@ -1,8 +1,8 @@
 -- The plain block, every join counted as 1: the weight is 1 where the list of u holds v, and a chain's sum is its number
 -- of links.
-use Prim.Native.Nat.{ℕ, zero, suc, _+_, _≤_, _<_}
-use mathlib.Core.Path.{_≡_, refl, sym, ap, _∙_}
-use mathlib.Core.Bool.{Bool, true, false, cond, _&&_}
+use Prim.Native.Nat.{ℕ, _≤_, _<_}
+use mathlib.Core.Path.{_≡_, refl, sym, _∙_}
+use mathlib.Core.Bool.{Bool, true, cond, _&&_}
 use mathlib.Core.List.{List}
 use native.Mathlib.Omega.{arith}
 use lib.ListN.{length, getD}
@@ -10,11 +10,13 @@ use lib.Dec.{eqb}
 use Rattle.basics.specs.Places.{some, least}
 use Rattle.basics.proofs.Laws.{bcase, cond-true, cond-false, some-found, some-not, some-one, least-most, least-le, least-ge}
 use Rattle.theory.specs.Links.{Link, Block, inList}
-use Rattle.theory.specs.Chains.{Chain, stay, step}
-use Rattle.theory.specs.Distance.{far, weight}
-use Rattle.theory.specs.Plain.{ones, joined}
+use Rattle.theory.specs.Chains.{Chain, stay, step, Least, linkCount, ChainOf}
+use Rattle.theory.specs.Distance.{far, weight, dist, said}
+use Rattle.theory.specs.Plain.{ones, joined, joinsTo}
+use Rattle.theory.proofs.DistLeast.{least-same}
+use Rattle.theory.proofs.DistVia.{chain-sum}
 use Rattle.theory.proofs.DistWeight.{holdsAt, held-link, link-held, link-place}
-use Rattle.theory.proofs.Distance.{far-one}
+use Rattle.theory.proofs.Distance.{far-one, dist-is, dist-bound}
 
 -- the least of ones at the marked places is 1 if some place is marked
 least-ones : (B k : ℕ) (marked : ℕ → Bool) → 1 ≤ B → least B k (λ i. cond (marked i) 1 B) ≡ cond (some marked 0 k) 1 B
@@ -54,13 +56,23 @@ unfolding joined holdsAt
 link-joined {S} {L} {u} {v} block h l =
     some-one (λ i. inList S u i && eqb (getD L i 0) v) 0 (length L) (l .at) (omega arith) (omega (arith, link-place block h l)) (link-held l)
 
--- the number of links of a chain
-unfoldable pub linksOf : {K : ℕ → ℕ → ℕ → Type 0} {a b m : ℕ} → Chain K a b m → ℕ
-linksOf stay = 0
-linksOf (step c l e) = suc (linksOf c)
-
 -- where every join counts 1, the sum of a chain is its number of links
-pub chain-links : {S L : List ℕ} {a b m : ℕ} (c : Chain (Link S L ones) a b m) → m ≡ linksOf c
-unfolding linksOf
+pub chain-links : {S L : List ℕ} {a b m : ℕ} (c : Chain (Link S L ones) a b m) → m ≡ linkCount c
+unfolding linkCount
 chain-links stay = refl
 chain-links (step c l e) = omega (arith, chain-links c, l .costs)
+
+module _ {n : ℕ} {S L : List ℕ} (block : Block n 1 S L ones) where
+  -- d(a,b) is the fewest links of a chain from a to b, and none exactly if there is no chain
+  pub joins-is : (a b : ℕ) → a < n → Least (ChainOf (Link S L ones) a b) (said (far 1 n) (joinsTo n S L a b))
+  unfolding joinsTo
+  joins-is a b h =
+      least-same (said (far 1 n) (dist 1 n S L ones a b))
+      (λ j c. record { sum = j; chain = c; long = sym (chain-links c) })
+      (λ j r. chain-sum (sym (chain-links (r .chain) ∙ r .long)) (r .chain))
+      (dist-is block a b h)
+
+  -- fewer joins than frames
+  pub joins-below : (a b : ℕ) → a < n → b < n → joinsTo n S L a b < far 1 n → joinsTo n S L a b < n
+  unfolding joinsTo
+  joins-below a b p q h = omega (arith, dist-bound block a b p q h)

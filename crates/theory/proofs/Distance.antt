@@ -2,23 +2,22 @@
 -- distance. A chain never leaves the frames below n; along a shortest one the distance rises at every link, so a
 -- distance is at most M times the number of frames that are nearer.
 use Prim.Native.Nat.{ℕ, zero, suc, _+_, _-_, _*_, _≤_, _<_}
-use mathlib.Core.Path.{_≡_, refl, sym, ap, _∙_}
-use mathlib.Core.Bool.{Bool, true, false, cond}
+use mathlib.Core.Path.{_≡_, ap}
+use mathlib.Core.Bool.{Bool}
 use mathlib.Core.List.{List}
 use native.Mathlib.Nat.{mul-le-mul-left, mul-suc}
 use native.Mathlib.Decide.{ℕ-discrete}
 use native.Mathlib.Omega.{arith}
-use lib.ListN.{length, getD}
 use lib.Dec.{ltb}
 use borrow.Author.Tests.{ltb-true, lt-ltb, le-ltb}
-use Rattle.basics.proofs.Laws.{by-cases, lt-or-ge, cond-true, cond-false}
+use Rattle.basics.proofs.Laws.{by-cases, lt-or-ge}
 use Rattle.theory.specs.Links.{Block, Link}
-use Rattle.theory.specs.Chains.{Chain, stay, step, Least, joins, none}
-use Rattle.theory.specs.Distance.{far, weight, dist, via, said}
+use Rattle.theory.specs.Chains.{Chain, stay, step, Least}
+use Rattle.theory.specs.Distance.{far, weight, dist, said}
 use Rattle.theory.specs.Rows.{Metric}
 use Rattle.theory.proofs.Counting.{count, count-more, count-gap}
-use Rattle.theory.proofs.DistVia.{chain-last, via-most, via-self, via-weight, via-triangle, via-swap, via-chain}
-use Rattle.theory.proofs.DistWeight.{link-inside, link-upto, weight-link, link-weight, weight-one, weight-upto, weight-swap}
+use Rattle.theory.proofs.DistVia.{chain-join, chain-last, via-most, via-self, via-weight, via-triangle, via-swap, via-chain}
+use Rattle.theory.proofs.DistWeight.{link-inside, link-back, link-upto, weight-link, link-weight, weight-one, weight-upto, weight-swap}
 
 pub far-one : (M n : ℕ) → 1 ≤ far M n
 unfolding far
@@ -67,6 +66,14 @@ module _ {n M : ℕ} {S L : List ℕ} {P : ℕ → ℕ} (block : Block n M S L P
   pub chain-inside : {a b m : ℕ} → a < n → Chain (Link S L P) a b m → b < n
   chain-inside h stay = h
   chain-inside h (step c l e) = link-inside block (chain-inside h c) l
+
+  -- a chain may be gone back
+  pub chain-back : {a b m : ℕ} → a < n → Chain (Link S L P) a b m → Chain (Link S L P) b a m
+  chain-back h stay = stay
+  chain-back {m} h (step {b = u} {m = j} {w = w} c l e) =
+      let first : w ≡ 0 + w = omega arith in
+      let sum : m ≡ w + j = omega arith in
+      chain-join (step stay (link-back block (chain-inside h c) l) first) (chain-back h c) sum
 
   -- no chain's sum is below the distance
   pub dist-least : {a b m : ℕ} → a < n → Chain (Link S L P) a b m → dist M n S L P a b ≤ m

@@ -1,5 +1,6 @@
 pub mod Counting
 pub mod DistVia
+pub mod DistLeast
 pub mod DistWeight
 pub mod Distance
 pub mod DistPlain
@@ -8,3 +9,8 @@ pub mod Rule
 pub mod Walk
 pub mod Levels
 pub mod Answer
+pub mod Demand
+pub mod Spare
+pub mod WalkRule
+pub mod Penalties
+pub mod Plain

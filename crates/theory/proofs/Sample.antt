@@ -1,13 +1,15 @@
 -- A block that meets the premises of every theorem here: the chain 0-1-2-3, with its order by degree 1,2,0,3.
 use Prim.Native.Nat.{ℕ, zero, suc, _+_, _≤_, _<_}
-use mathlib.Core.Path.{_≡_, refl, sym, subst}
+use mathlib.Core.Path.{_≡_, refl, subst}
 use mathlib.Core.List.{List, [], _∷_}
 use native.Mathlib.Decide.{ℕ-discrete}
 use native.Mathlib.Omega.{arith}
-use lib.ListN.{length, getD}
+use lib.ListN.{getD}
+use Rattle.basics.specs.Places.{least}
 use Rattle.basics.proofs.Laws.{by-cases}
-use Rattle.theory.specs.Links.{Block, Link, Order}
-use Rattle.theory.specs.Plain.{ones}
+use Rattle.theory.specs.Links.{Block, Link, Order, inList}
+use Rattle.theory.specs.Distance.{far, weight, via, dist}
+use Rattle.theory.specs.Plain.{ones, joinsTo}
 
 abbrev pub sampleS : List ℕ
 sampleS = 0 ∷ 1 ∷ 3 ∷ 5 ∷ 6 ∷ []
@@ -103,3 +105,8 @@ once-each r (suc (suc (suc (suc s)))) h k e = omega arith
 
 pub sample-order : Order 4 sampleO
 sample-order = record { long = refl; inside = inside-four; once = once-each }
+
+-- the distance computes: three joins from one end to the other
+pub sample-joins : joinsTo 4 sampleS sampleL 0 3 ≡ 3
+unfolding joinsTo dist via weight least inList far
+sample-joins = refl
