@@ -1,0 +1,2 @@
+pub mod DropNotes
+pub mod DropWithin
