@@ -1,13 +1,17 @@
 -- Bits of a byte string, most significant first, as one big number: no lists of bits.
-use Prim.Native.Nat.{ℕ, zero, suc, _+_, _-_, _*_, _/_, _%_, _^_}
+use Prim.Native.Nat.{ℕ, zero, suc, _+_, _-_, _*_, _/_, _%_, _^_, _<_}
 use mathlib.Core.Path.{_≡_}
 use mathlib.Core.List.{List, [], _∷_}
-use lib.ListN.{length}
+use lib.ListN.{length, getD}
 
 -- the number that a byte string is
 unfoldable pub val : List ℕ → ℕ
 val [] = 0
 val (b ∷ bs) = b * 2 ^ (8 * length bs) + val bs
+
+-- a string of bytes: every element is below 256
+abbrev pub Bytes : List ℕ → Type 0
+Bytes s = (i : ℕ) → getD s i 0 < 256
 
 -- its first p bits
 unfoldable pub upTo : List ℕ → ℕ → ℕ
@@ -50,3 +54,13 @@ padLen p = 8 * byteLen p - p
 -- fields packed into bytes
 unfoldable pub packed : List Field → List ℕ
 packed fs = bytesOf (byteLen (bitLen fs)) (num 0 fs * 2 ^ padLen (bitLen fs))
+
+-- every value fits its width
+unfoldable pub Legal : List Field → Type 0
+Legal [] = Unit {0}
+Legal (f ∷ fs) = (f .value < 2 ^ f .width) × Legal fs
+
+-- from bit p on the byte string holds these fields
+unfoldable pub Reads : List ℕ → ℕ → List Field → Type 0
+Reads s p [] = Unit {0}
+Reads s p (f ∷ fs) = (fieldAt s p (f .width) ≡ f .value) × Reads s (p + f .width) fs

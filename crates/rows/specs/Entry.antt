@@ -3,6 +3,10 @@ use Prim.Native.Nat.{ℕ, _+_, _*_, _/_, _%_}
 use mathlib.Core.List.{List, [], _∷_}
 use Rattle.theory.specs.Rows.{Row}
 
+-- an entry is a number of 32 bits
+abbrev pub entryBytes : ℕ
+entryBytes = 4
+
 unfoldable pub rankOf : ℕ → ℕ
 rankOf e = e / 65536
 

@@ -1,6 +1,7 @@
 -- The label room and the count room, and the tests on their rows: row v starts at place v * w and has as many used
 -- entries as the count room says.
-use Prim.Native.Nat.{ℕ, _+_, _-_, _*_}
+use Prim.Native.Nat.{ℕ, _+_, _-_, _*_, _≤_}
+use mathlib.Core.Path.{_≡_}
 use mathlib.Core.Bool.{Bool, cond, not, _&&_, _||_}
 use mathlib.Core.List.{List, []}
 use lib.ListN.{length, getD, take, drop}
@@ -23,9 +24,30 @@ roomsFit n w labels counts = eqb (length labels) (n * w) && eqb (length counts) 
 unfoldable pub roomTests : ℕ → ℕ → List ℕ → List ℕ → Verdict
 roomTests n w labels counts = test (sizesFit n w) SIZE 0 then test (roomsFit n w labels counts) LENGTH 0
 
+-- what those two tests let through
+pub record Rooms (n w : ℕ) (labels counts : List ℕ) : Type 0 where
+  pub some-frames : 1 ≤ n
+  pub frames : n ≤ 4096
+  pub some-width : 1 ≤ w
+  pub width : w ≤ 256
+  pub places : length labels ≡ n * w
+  pub each : length counts ≡ n
+
 -- `count` entries of row v
 unfoldable pub part : ℕ → List ℕ → ℕ → ℕ → List ℕ
 part w labels v count = take count (drop (v * w) labels)
+
+-- `count` entries of row v lie in a room: rows are below 4,096 and at most 256 wide, and the room goes so far
+unfoldable pub inRoom : ℕ → List ℕ → ℕ → ℕ → Bool
+inRoom w labels v count = ltb v 4096 && leb w 256 && leb (v * w + count) (length labels)
+
+-- `count` entries of row v, and none where they do not lie in the room
+unfoldable pub partOf : ℕ → List ℕ → ℕ → ℕ → List ℕ
+partOf w labels v count = cond (inRoom w labels v count) (part w labels v count) []
+
+-- where such a part starts in the label room: at its front where it does not lie in it
+unfoldable pub partStart : ℕ → List ℕ → ℕ → ℕ → ℕ
+partStart w labels v count = cond (inRoom w labels v count) (v * w) 0
 
 -- the used part of row v
 unfoldable pub rowAt : ℕ → List ℕ → List ℕ → ℕ → List ℕ

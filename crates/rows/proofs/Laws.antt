@@ -1,0 +1,231 @@
+-- The laws of entries, of rows in a label room, and of sound rows.
+use Prim.Native.Nat.{ℕ, zero, suc, _+_, _-_, _*_, _/_, _%_, _≤_, _<_}
+use mathlib.Core.Path.{_≡_, refl, sym, ap, _∙_}
+use mathlib.Core.Bool.{Bool, true, false, cond, not, _&&_, _||_}
+use mathlib.Core.List.{List, [], _∷_, _++_}
+use native.Mathlib.Nat.{suc-mul, mul-le-mul-right, add-sub-cancel}
+use native.Mathlib.Omega.{arith}
+use borrow.Author.Tests.{ltb-true, leb-true, leb-false, ltb-false, lt-ltb, le-leb, lt-leb, le-ltb}
+use lib.ListN.{length, getD, take, drop, length-append, length-drop, length-take}
+use lib.Seq.{getD-take, getD-drop, length-take-le}
+use lib.Dec.{leb, ltb}
+use Rattle.basics.proofs.Laws.{bcase, by-cases, lt-or-ge, three-ways, both-true, both, either-false, either-left, either-right, neither, cond-true, cond-false, not-both, of-not-true, not-of-false, some-not, some-none}
+use Rattle.theory.specs.Rows.{Row}
+use Rattle.basics.specs.Places.{some}
+use Rattle.rows.specs.Entry.{rankOf, joinsOf, entryOf, decode, encode}
+use Rattle.rows.specs.Rooms.{part, partOf, partStart, inRoom, rowAt, faultyEntry, soundRow}
+
+-- ---- the entry
+
+pub rank-entry : (rank joins : ℕ) → rank < 65536 → rankOf (entryOf rank joins) ≡ rank
+unfolding rankOf entryOf
+rank-entry rank joins h = omega arith
+
+pub joins-entry : (rank joins : ℕ) → joins < 65536 → joinsOf (entryOf rank joins) ≡ joins
+unfolding joinsOf entryOf
+joins-entry rank joins h = omega arith
+
+pub entry-of-parts : (e : ℕ) → e < 4294967296 → entryOf (rankOf e) (joinsOf e) ≡ e
+unfolding rankOf joinsOf entryOf
+entry-of-parts e h = omega arith
+
+pub joins-small : (e : ℕ) → joinsOf e < 65536
+unfolding joinsOf
+joins-small e = omega arith
+
+pub entry-fits : (rank joins : ℕ) → entryOf rank joins < 4294967296
+unfolding entryOf
+entry-fits rank joins = omega arith
+
+-- ---- lists of entries
+
+-- every rank and every number of joins fits its half of an entry
+pub data Fits : Row → Type 0 where
+  fits-none : Fits []
+  fits-more : {p : ℕ × ℕ} {ps : Row} → p .0 < 65536 → p .1 < 65536 → Fits ps → Fits (p ∷ ps)
+
+pub decode-encode : {row : Row} → Fits row → decode (encode row) ≡ row
+unfolding decode encode
+decode-encode fits-none = refl
+decode-encode (fits-more {p = p} a b rest) =
+    λ i. (rank-entry (p .0) (p .1) a i, joins-entry (p .0) (p .1) b i) ∷ decode-encode rest i
+
+pub encode-append : (x y : Row) → encode (x ++ y) ≡ encode x ++ encode y
+unfolding encode
+encode-append [] y = refl
+encode-append (p ∷ ps) y = ap (λ (l : List ℕ). entryOf (p .0) (p .1) ∷ l) (encode-append ps y)
+
+pub decode-append : (a b : List ℕ) → decode (a ++ b) ≡ decode a ++ decode b
+unfolding decode
+decode-append [] b = refl
+decode-append (e ∷ es) b = ap (λ (l : Row). (rankOf e, joinsOf e) ∷ l) (decode-append es b)
+
+pub length-encode : (row : Row) → length (encode row) ≡ length row
+unfolding encode
+length-encode [] = refl
+length-encode (p ∷ ps) = ap suc (length-encode ps)
+
+pub length-decode : (a : List ℕ) → length (decode a) ≡ length a
+unfolding decode
+length-decode [] = refl
+length-decode (e ∷ es) = ap suc (length-decode es)
+
+pub getD-encode : (row : Row) (i : ℕ) → i < length row
+    → getD (encode row) i 0 ≡ entryOf (getD row i (0, 0) .0) (getD row i (0, 0) .1)
+unfolding encode
+getD-encode [] i h = absurd (omega arith)
+getD-encode (p ∷ ps) zero h = refl
+getD-encode (p ∷ ps) (suc i) h = getD-encode ps i (omega arith)
+
+pub getD-decode : (a : List ℕ) (i : ℕ) → i < length a → getD (decode a) i (0, 0) ≡ (rankOf (getD a i 0), joinsOf (getD a i 0))
+unfolding decode
+getD-decode [] i h = absurd (omega arith)
+getD-decode (e ∷ es) zero h = refl
+getD-decode (e ∷ es) (suc i) h = getD-decode es i (omega arith)
+
+-- ---- rows in the room
+
+-- the used places of a row end before the next row
+pub row-inside : {v n c w : ℕ} → v < n → c ≤ w → v * w + c ≤ n * w
+row-inside {v} {n} {c} {w} h k = omega (arith, suc-mul v w, mul-le-mul-right w h)
+
+-- places of two rows are never the same
+pub row-apart : {u v a b w : ℕ} → (u ≡ v → ⊥) → a < w → b < w → u * w + a ≡ v * w + b → ⊥
+row-apart {u} {v} {a} {b} {w} h p q e =
+    three-ways u v
+    (λ l. omega (arith, row-inside {v = u} {n = v} {c = suc a} {w = w} l p))
+    h
+    (λ g. omega (arith, row-inside {v = v} {n = u} {c = suc b} {w = w} g q))
+
+pub in-room : (w : ℕ) (labels : List ℕ) (v count : ℕ) → v < 4096 → w ≤ 256 → v * w + count ≤ length labels
+    → inRoom w labels v count ≡ true
+unfolding inRoom
+in-room w labels v count h k l = both _ _ (both _ _ (lt-ltb v 4096 h) (le-leb w 256 k)) (le-leb (v * w + count) (length labels) l)
+
+pub not-in-room : (w : ℕ) (labels : List ℕ) (v count : ℕ)
+    → (v < 4096 → w ≤ 256 → v * w + count ≤ length labels → ⊥) → inRoom w labels v count ≡ false
+unfolding inRoom
+not-in-room w labels v count never =
+    bcase (inRoom w labels v count)
+    (λ t.
+    let p : (ltb v 4096 && leb w 256 ≡ true) × (leb (v * w + count) (length labels) ≡ true) = both-true _ _ t in
+    let q : (ltb v 4096 ≡ true) × (leb w 256 ≡ true) = both-true _ _ (p .0) in
+    absurd (never (ltb-true v 4096 (q .0)) (leb-true w 256 (q .1)) (leb-true (v * w + count) (length labels) (p .1))))
+    (λ f. f)
+
+pub part-in-room : {n : ℕ} (w : ℕ) (labels : List ℕ) (v count : ℕ) → v < n → n ≤ 4096 → w ≤ 256 → count ≤ w
+    → length labels ≡ n * w → partOf w labels v count ≡ part w labels v count
+unfolding partOf
+part-in-room {n} w labels v count h k l m e =
+    cond-true _ _ (in-room w labels v count (omega arith) l (omega (arith, row-inside {v = v} {n = n} {c = count} {w = w} h m)))
+
+pub start-in-room : {n : ℕ} (w : ℕ) (labels : List ℕ) (v count : ℕ) → v < n → n ≤ 4096 → w ≤ 256 → count ≤ w
+    → length labels ≡ n * w → partStart w labels v count ≡ v * w
+unfolding partStart
+start-in-room {n} w labels v count h k l m e =
+    cond-true _ _ (in-room w labels v count (omega arith) l (omega (arith, row-inside {v = v} {n = n} {c = count} {w = w} h m)))
+
+pub getD-part : (w : ℕ) (labels : List ℕ) (v count i : ℕ) → i < count → getD (part w labels v count) i 0 ≡ getD labels (v * w + i) 0
+unfolding part
+getD-part w labels v count i h = getD-take count (drop (v * w) labels) i 0 h ∙ getD-drop (v * w) labels i 0
+
+pub length-part : {n : ℕ} (w : ℕ) (labels : List ℕ) (v count : ℕ) → v < n → count ≤ w → length labels ≡ n * w
+    → length (part w labels v count) ≡ count
+unfolding part
+length-part {n} w labels v count h k e =
+    length-take-le count (drop (v * w) labels)
+    (simp length-drop (omega (arith, row-inside {v = v} {n = n} {c = count} {w = w} h k)))
+
+-- ---- sound rows
+
+-- what makes the first `count` entries of a list sound: strictly rising ranks below the bound, joins below n
+pub record Sound (bound n : ℕ) (row : List ℕ) (count : ℕ) : Type 0 where
+  pub rank : (i : ℕ) → i < count → rankOf (getD row i 0) < bound
+  pub joins : (i : ℕ) → i < count → joinsOf (getD row i 0) < n
+  pub rising : (i : ℕ) → i + 1 < count → rankOf (getD row i 0) < rankOf (getD row (i + 1) 0)
+
+pub faultless : (bound n : ℕ) (row : List ℕ) (i : ℕ) → rankOf (getD row i 0) < bound → joinsOf (getD row i 0) < n
+    → (0 < i → rankOf (getD row (i - 1) 0) < rankOf (getD row i 0)) → faultyEntry bound n row i ≡ false
+unfolding faultyEntry
+faultless bound n row i a b rise =
+    neither _ _ (neither _ _ (lt-leb bound _ a) (lt-leb n _ b))
+    (lt-or-ge 0 i
+    (λ h. rw (lt-ltb 0 i h, lt-leb _ _ (rise h)) refl)
+    (λ h. rw (le-ltb 0 i h) refl))
+
+pub faulty-rank : (bound n : ℕ) (row : List ℕ) (i : ℕ) → bound ≤ rankOf (getD row i 0) → faultyEntry bound n row i ≡ true
+unfolding faultyEntry
+faulty-rank bound n row i h = either-left _ _ (either-left _ _ (le-leb bound _ h))
+
+pub faulty-joins : (bound n : ℕ) (row : List ℕ) (i : ℕ) → n ≤ joinsOf (getD row i 0) → faultyEntry bound n row i ≡ true
+unfolding faultyEntry
+faulty-joins bound n row i h = either-left _ _ (either-right (leb bound (rankOf (getD row i 0))) _ (le-leb n _ h))
+
+pub faulty-rise : (bound n : ℕ) (row : List ℕ) (i : ℕ) → 0 < i → rankOf (getD row i 0) ≤ rankOf (getD row (i - 1) 0)
+    → faultyEntry bound n row i ≡ true
+unfolding faultyEntry
+faulty-rise bound n row i p h =
+    either-right (leb bound (rankOf (getD row i 0)) || leb n (joinsOf (getD row i 0))) _ (both _ _ (lt-ltb 0 i p) (le-leb _ _ h))
+
+record Faultless (bound n : ℕ) (row : List ℕ) (i : ℕ) : Type 0 where
+  rank : rankOf (getD row i 0) < bound
+  joins : joinsOf (getD row i 0) < n
+  rising : 0 < i → rankOf (getD row (i - 1) 0) < rankOf (getD row i 0)
+
+faultless-entry : (bound n : ℕ) (row : List ℕ) (i : ℕ) → faultyEntry bound n row i ≡ false → Faultless bound n row i
+unfolding faultyEntry
+faultless-entry bound n row i e =
+    let p : (leb bound (rankOf (getD row i 0)) || leb n (joinsOf (getD row i 0)) ≡ false)
+    × (ltb 0 i && leb (rankOf (getD row i 0)) (rankOf (getD row (i - 1) 0)) ≡ false) = either-false _ _ e in
+    let q : (leb bound (rankOf (getD row i 0)) ≡ false) × (leb n (joinsOf (getD row i 0)) ≡ false) =
+    either-false _ _ (p .0) in
+    record {
+      rank = leb-false _ _ (q .0);
+      joins = leb-false _ _ (q .1);
+      rising = λ h. leb-false _ _ (rw (lt-ltb 0 i h) at (p .1));
+    }
+
+pub sound-of : (bound n : ℕ) (row : List ℕ) (count : ℕ) → some (faultyEntry bound n row) 0 count ≡ false → Sound bound n row count
+sound-of bound n row count e =
+    let one : (i : ℕ) → i < count → Faultless bound n row i =
+    λ i h. faultless-entry bound n row i (some-not (faultyEntry bound n row) 0 count i e (omega arith) (omega arith)) in
+    record {
+      rank = λ i h. one i h .rank;
+      joins = λ i h. one i h .joins;
+      rising = λ i h. rw add-sub-cancel at (one (i + 1) h .rising (omega arith));
+    }
+
+pub of-sound : (bound n : ℕ) (row : List ℕ) (count : ℕ) → Sound bound n row count → some (faultyEntry bound n row) 0 count ≡ false
+of-sound bound n row count s =
+    some-none (faultyEntry bound n row) 0 count
+    (λ i h k.
+    faultless bound n row i (s .rank i (omega arith)) (s .joins i (omega arith))
+    (λ p.
+    let e : i - 1 + 1 ≡ i = omega arith in
+    rw e at (s .rising (i - 1) (omega arith))))
+
+-- a sound row, taken apart and put together
+pub row-sound : (bound n w : ℕ) (labels counts : List ℕ) (v : ℕ) → soundRow bound n w labels counts v ≡ true
+    → (getD counts v 0 ≤ w) × Sound bound n (rowAt w labels counts v) (getD counts v 0)
+unfolding soundRow
+row-sound bound n w labels counts v e =
+    let p : (leb (getD counts v 0) w ≡ true)
+    × (not (some (faultyEntry bound n (rowAt w labels counts v)) 0 (getD counts v 0)) ≡ true) = both-true _ _ e in
+    (leb-true _ _ (p .0), sound-of bound n (rowAt w labels counts v) (getD counts v 0) (of-not-true _ (p .1)))
+
+pub sound-row : (bound n w : ℕ) (labels counts : List ℕ) (v : ℕ) → getD counts v 0 ≤ w
+    → Sound bound n (rowAt w labels counts v) (getD counts v 0) → soundRow bound n w labels counts v ≡ true
+unfolding soundRow
+sound-row bound n w labels counts v h s =
+    both _ _ (le-leb _ _ h) (not-of-false (of-sound bound n (rowAt w labels counts v) (getD counts v 0) s))
+
+-- the ranks of a sound row rise from any place to any later one
+pub ranks-rise : {bound n : ℕ} {row : List ℕ} {count : ℕ} → Sound bound n row count → (i k : ℕ) → i + suc k < count
+    → rankOf (getD row i 0) < rankOf (getD row (i + suc k) 0)
+ranks-rise s i zero h = s .rising i h
+ranks-rise {row = row} s i (suc k) h =
+    let e : i + suc k + 1 ≡ i + suc (suc k) = omega arith in
+    let one : rankOf (getD row i 0) < rankOf (getD row (i + suc k) 0) = ranks-rise s i k (omega arith) in
+    let next : rankOf (getD row (i + suc k) 0) < rankOf (getD row (i + suc (suc k)) 0) =
+    rw e at (s .rising (i + suc k) (omega arith)) in
+    omega arith
