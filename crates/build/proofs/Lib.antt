@@ -7,3 +7,5 @@ pub mod BfsWalk
 pub mod DropNotes
 pub mod DropWithin
 pub mod DropRow
+pub mod RoomLaws
+pub mod RoomMarks
