@@ -1,2 +1,6 @@
+pub mod Inversion
+pub mod Fields
+pub mod Steps
+pub mod Gather
 pub mod Bits
 pub mod Packed

@@ -1,3 +1,4 @@
 pub mod Bits
 pub mod Layout
 pub mod Reader
+pub mod Steps
