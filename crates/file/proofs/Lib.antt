@@ -4,3 +4,4 @@ pub mod Steps
 pub mod Gather
 pub mod Bits
 pub mod Packed
+pub mod Pen

@@ -1,4 +1,7 @@
 // The index file: bit-packed fields, most significant first.
+mod put;
+mod widths;
+
 use refusal::Refusal;
 use refusal::Verdict;
 

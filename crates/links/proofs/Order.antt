@@ -20,21 +20,10 @@ use Rattle.refusal.specs.declared.Verdict.the-variants.{Fine, Refused}
 use Rattle.refusal.proofs.Laws.{test-fine, test-refused, test-held, after-fine, after-refused}
 use Rattle.theory.specs.Links.{Order}
 use Rattle.links.specs.Links.{framesFit}
+use Rattle.links.proofs.Links.{frames-fit}
 use Rattle.links.specs.Order.{stands, faultyRank, orderTest, checkOrder}
 
--- ---- sizes
-
-pub frames-fit : (n : ℕ) → 1 ≤ n → n ≤ 4096 → framesFit n ≡ true
-unfolding framesFit
-frames-fit n one most = both _ _ (le-leb 1 n one) (le-leb n 4096 most)
-
-pub no-frames : (n : ℕ) → n < 1 → framesFit n ≡ false
-unfolding framesFit
-no-frames n few = rw (lt-leb 1 n few) refl
-
-pub many-frames : (n : ℕ) → 4096 < n → framesFit n ≡ false
-unfolding framesFit
-many-frames n many = rw (le-leb 1 n (omega arith), lt-leb n 4096 many) refl
+-- ---- sizes and lengths
 
 -- where sizes and lengths fit, check order is its own test
 pub order-alone : (n : ℕ) (O : List ℕ) → 1 ≤ n → n ≤ 4096 → length O ≡ n → checkOrder n O ≡ orderTest n O

@@ -1,1 +1,4 @@
 pub mod Laws
+pub mod MeetingLaws
+pub mod PairLaws
+pub mod RoomLaws

@@ -3,7 +3,8 @@ use mathlib.Core.Path.{_≡_, sym, _∙_}
 use native.Mathlib.Omega.{arith}
 use borrow.Author.Needs.{needs}
 use lib.ListN.{length}
-use Rattle.links.proofs.Order.{order-alone, order-unfit, order-length, no-frames, many-frames}
+use Rattle.links.proofs.Links.{no-frames, many-frames}
+use Rattle.links.proofs.Order.{order-alone, order-unfit, order-length}
 use Rattle.links.proofs.check_order.Statement.{statement}
 use Rattle.links.proofs.check_order.Tie as tie
 

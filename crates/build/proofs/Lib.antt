@@ -1,0 +1,4 @@
+pub mod DropNotes
+pub mod DropWithin
+pub mod RoomLaws
+pub mod RoomMarks
