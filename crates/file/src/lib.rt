@@ -5,6 +5,9 @@ mod widths;
 use refusal::Refusal;
 use refusal::Verdict;
 
+mod check;
+mod get;
+
 // What opening a file gives: an index of n frames and stop k, or a refusal.
 pub enum Opened {
     Index(usize, usize),
