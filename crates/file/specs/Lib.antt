@@ -2,3 +2,4 @@ pub mod Bits
 pub mod Layout
 pub mod Pen
 pub mod Reader
+pub mod Writer
