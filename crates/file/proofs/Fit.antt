@@ -26,7 +26,7 @@ use Rattle.file.specs.Writer.{indexSizes, indexLengths, writeTests, Fit}
 use Rattle.file.specs.Pen.{RowsIn}
 use Rattle.file.proofs.Bits.{bitLen-append}
 use Rattle.file.proofs.Packed.{legal-append, packed-length}
-use Rattle.file.proofs.Fields.{header-bits, order-bits, rows-bits, order-legal, entries-legal, rows-legal}
+use Rattle.file.proofs.LayoutLaws.{header-bits, order-bits, rows-bits, order-legal, entries-legal, rows-legal}
 
 -- what 1 and 2 let through
 pub sizes-in : (n k w : ℕ) → indexSizes n k w ≡ true → (1 ≤ n) × (n ≤ 4096) × (1 ≤ w) × (w ≤ 256) × (k ≤ n)

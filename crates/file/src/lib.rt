@@ -16,6 +16,9 @@ pub enum Written {
     Refused(Refusal),
 }
 
+mod check;
+mod get;
+
 // What opening a file gives: an index of n frames and stop k, or a refusal.
 pub enum Opened {
     Index(usize, usize),
