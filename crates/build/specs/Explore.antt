@@ -55,7 +55,7 @@ pub record Queue (met queue : List ℕ) (t : ℕ) : Type 0 where
   pub is : Queued met queue t
   pub count : filled met ≡ t
 
--- one more than the level at which v was met, the drop mark taken off
+-- one more than the level at which v was met: the drop mark taken off
 abbrev pub levelAt : List ℕ → ℕ → ℕ
 levelAt met v = getD met v 0 % 65536
 

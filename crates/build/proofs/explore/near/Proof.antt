@@ -64,7 +64,7 @@ returns c =
     (c .before .before .before .before .before .loop-test .taken)
     (c .before .before .before .rank-of .ensures)
     (c .before .before .joins-of .ensures)
-    (c .if1 .taken))
+    (omega (arith, c .if1 .taken)))
     ∙ l .inv .1
 
 add-i : tie.Need-add-i Inv-loop μ-loop
@@ -83,7 +83,7 @@ loop-again c =
           (c .before .before .before .before .before .loop-test .taken)
           (c .before .before .before .rank-of .ensures)
           (c .before .before .joins-of .ensures)
-          (c .if1 .left))
+          (omega (arith, c .if1 .left)))
           ∙ l .inv .1,
     )
 

@@ -85,7 +85,7 @@ meet-requires c κs =
       block = rw (b .long) (s .pre .given .block);
       frames = omega (arith, b .long, s .pre .given .frames);
       frame = omega (arith, b .long, head-in b (s .pre .more));
-      some = omega arith;
+      some = omega (arith, head-met b (s .pre .more));
       line = b .line;
     }
 
