@@ -1,7 +1,10 @@
+pub mod Bits
+pub mod Packed
+pub mod Pen
+pub mod LayoutLaws
+pub mod Fit
+pub mod Writing
 pub mod Inversion
 pub mod Fields
 pub mod Steps
 pub mod Gather
-pub mod Bits
-pub mod Packed
-pub mod Pen

@@ -1,5 +1,6 @@
 pub mod Bits
 pub mod Layout
 pub mod Pen
+pub mod Writer
 pub mod Reader
 pub mod Steps
