@@ -1,3 +1,6 @@
+pub mod Reader
+pub mod Stores
+pub mod Heading
 pub mod Inversion
 pub mod Fields
 pub mod Steps

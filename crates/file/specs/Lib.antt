@@ -3,3 +3,4 @@ pub mod Layout
 pub mod Pen
 pub mod Reader
 pub mod Steps
+pub mod Stores
