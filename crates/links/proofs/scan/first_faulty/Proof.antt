@@ -6,12 +6,11 @@ use mathlib.Core.List.{List}
 use native.Mathlib.Omega.{arith}
 use native.Mathlib.Nat.{sub-zero}
 use borrow.Author.Count.{falls}
-use borrow.Author.Needs.{needs}
 use lib.ListN.{length, getD, length-replicate}
 use Rattle.basics.specs.Places.{first, some}
 use Rattle.basics.proofs.Laws.{first-here, first-step, first-over, some-here, some-step, some-over}
 use Rattle.links.specs.Links.{degree, faultyLink, faultyList}
-use Rattle.links.proofs.Links.{list-within}
+use Rattle.links.proofs.Links.{list-in}
 use Rattle.links.proofs.scan.first_faulty.Statement.{statement}
 use Rattle.links.proofs.scan.first_faulty.Tie as tie
 
@@ -67,8 +66,8 @@ cast-at c = omega (arith, c .shared-slice-known4 .given (c .before .before .befo
 loop-holds : tie.Need-loop-holds Inv-loop μ-loop Inv-frames μ-frames
 loop-holds c =
     let frames = c .before .before .before in
-    let within = list-within _ (c .before .before .before .before .before .before .pre) (frames .frames .v) (c .before .before .frames-test .taken) in
-    (omega arith, within .0, frames .frames .inv .1, list-whole _ _ _ _)
+    let list = list-in _ (c .before .before .before .before .before .before .pre) (frames .frames .v) (c .before .before .frames-test .taken) in
+    (omega arith, list .rise, frames .frames .inv .1, list-whole _ _ _ _)
 
 slice-aggregate-faulty : tie.Need-slice-aggregate-faulty Inv-loop μ-loop Inv-frames μ-frames
 slice-aggregate-faulty c = sym (c .before .before .loop .inv .2)
@@ -76,11 +75,11 @@ slice-aggregate-faulty c = sym (c .before .before .loop .inv .2)
 faulty-requires : tie.Need-faulty-requires Inv-loop μ-loop Inv-frames μ-frames
 faulty-requires c κs =
     let start = c .before .before .before .before .before .before .before .before .before in
-    let within = list-within _ (start .pre) (c .before .before .before .before .before .before .frames .v) (c .before .before .before .before .before .frames-test .taken) in
+    let list = list-in _ (start .pre) (c .before .before .before .before .before .before .frames .v) (c .before .before .before .before .before .frames-test .taken) in
     (start .pre, c .before .before .before .before .before .frames-test .taken, omega arith, omega (arith, start .pre .frames, c .before .before .loop .inv .2))
 
 add-at : tie.Need-add-at Inv-loop μ-loop Inv-frames μ-frames
-add-at c = omega (arith, list-within _ (c .before .before .before .before .before .before .before .before .before .before .before .before .pre) (c .before .before .before .before .before .before .before .before .before .frames .v) (c .before .before .before .before .before .before .before .before .frames-test .taken), c .before .before .before .before .before .loop .inv .1, c .before .before .before .before .loop-test .taken)
+add-at c = omega (arith, list-in _ (c .before .before .before .before .before .before .before .before .before .before .before .before .pre) (c .before .before .before .before .before .before .before .before .before .frames .v) (c .before .before .before .before .before .before .before .before .frames-test .taken), c .before .before .before .before .before .loop .inv .1, c .before .before .before .before .loop-test .taken)
 
 loop-less : tie.Need-loop-less Inv-loop μ-loop Inv-frames μ-frames
 loop-less c = omega arith
