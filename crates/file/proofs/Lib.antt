@@ -4,6 +4,8 @@ pub mod Pen
 pub mod LayoutLaws
 pub mod Fit
 pub mod Writing
+pub mod ReadBack
+pub mod WriteRead
 pub mod Inversion
 pub mod Fields
 pub mod Steps
