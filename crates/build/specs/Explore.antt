@@ -1,6 +1,6 @@
 -- The first half of one hub's walk: what it needs of the rooms, what it leaves in the queue, and what holds between two
 -- frames of it. `noted` is the hub's row by rank: its joins, and 65,536 where the row lacks the rank.
-use Prim.Native.Nat.{ℕ, zero, suc, _+_, _-_, _*_, _%_, _≤_, _<_, min}
+use Prim.Native.Nat.{ℕ, _+_, _-_, _*_, _%_, _≤_, _<_, min}
 use mathlib.Core.Path.{_≡_}
 use mathlib.Core.Logic.{_⊎_}
 use mathlib.Core.Bool.{Bool, true, false}

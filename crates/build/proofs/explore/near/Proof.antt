@@ -1,11 +1,11 @@
 -- The entries passed give no sum of at most the level, so what is left of the row decides. The loop takes one entry a
 -- turn, and ends at the first such sum or at the row's end.
 use Prim.Native.Nat.{_-_, _≤_}
-use mathlib.Core.Path.{_≡_, refl, sym, ap, _∙_}
+use mathlib.Core.Path.{_≡_, sym, _∙_}
 use native.Mathlib.Omega.{arith}
 use borrow.Author.Needs.{needs}
-use lib.ListN.{length, getD}
-use Rattle.rows.specs.Entry.{rankOf, joinsOf}
+use lib.ListN.{length}
+use Rattle.rows.specs.Entry.{joinsOf}
 use Rattle.build.specs.Explore.{within}
 use Rattle.build.proofs.DropWithin.{within-from, within-whole, within-hit, within-miss, within-end}
 use Rattle.build.proofs.explore.near.Statement.{statement}
