@@ -7,7 +7,9 @@ pub mod Inversion
 pub mod LayoutLaws
 pub mod Packed
 pub mod Pen
+pub mod ReadBack
 pub mod Reader
 pub mod Steps
 pub mod Stores
+pub mod WriteRead
 pub mod Writing
