@@ -11,13 +11,17 @@ use lib.ListN.{length, getD, take, drop, length-drop}
 use lib.Dec.{eqb}
 use lib.Seq.{length-take-le}
 use Rattle.basics.proofs.Laws.{bcase, cond-false}
+use Rattle.refusal.specs.Tests.{test}
 use Rattle.refusal.specs.declared.Verdict.{Verdict}
 use Rattle.refusal.specs.declared.Verdict.the-variants as verdicts
 use Rattle.rows.specs.Entry.{rankOf, joinsOf}
 use Rattle.rows.specs.Meetings.{Rises}
 use Rattle.rows.specs.Pair.{RowIn}
-use Rattle.rows.specs.Rooms.{part, rowAt, checkRows}
-use Rattle.rows.specs.Spread.{farthestIn, farthest, spreadBy, spreadOf, spreadTold, spreadToldBy, spreadNumbers, RowsIn}
+use Rattle.rows.specs.Rooms.{part, rowAt, checkRows, roomTests, rowsTest, sizesFit}
+use Rattle.rows.specs.Spread.{farthestIn, farthest, spreadBy, spreadOf, spreadTold, spreadToldBy, spreadNumbers, SpreadTold, RowsIn}
+use Rattle.rows.specs.declared.spread.SpreadAnswer.{SpreadAnswer}
+use Rattle.rows.specs.declared.spread.SpreadAnswer.the-variants.{Spread, Refused}
+use Rattle.rows.proofs.PairDepends.{NamedVerdict, named-test, named-then}
 use Rattle.rows.proofs.Laws.{getD-part, joins-small}
 use Rattle.rows.proofs.PairLaws.{row-in}
 use Rattle.rows.proofs.RoomLaws.{rows-sound}
@@ -94,3 +98,35 @@ told-by (verdicts.Refused r) d = refl
 pub spread-told : (n w : ℕ) (labels counts : List ℕ) → spreadTold (spreadOf n w labels counts) ≡ spreadNumbers n w labels counts
 unfolding spreadOf spreadNumbers
 spread-told n w labels counts = told-by (checkRows n n w labels counts) (farthest w labels counts n)
+
+-- ---- the paper's numbers tell
+
+-- a refusal has a number of its own
+unfoldable pub SpreadNamed : SpreadAnswer → Type 0
+SpreadNamed (Spread d) = Unit {0}
+SpreadNamed (Refused r) = 1 ≤ r .number
+
+-- answers with the same numbers are the same
+pub spread-told-apart : (a b : SpreadAnswer) → SpreadNamed a → SpreadNamed b → spreadTold a ≡ spreadTold b → a ≡ b
+unfolding spreadTold SpreadNamed
+spread-told-apart (Spread d) (Spread k) p q e = ap (λ (x : SpreadTold). Spread (x .spread)) e
+spread-told-apart (Spread d) (Refused r) p q e = absurd (omega (arith, ap (λ (x : SpreadTold). x .number) e))
+spread-told-apart (Refused r) (Spread k) p q e = absurd (omega (arith, ap (λ (x : SpreadTold). x .number) e))
+spread-told-apart (Refused r) (Refused s) p q e = λ i. Refused record { number = e i .number; place = e i .place }
+
+named-by : (v : Verdict) (d : ℕ) → NamedVerdict v → SpreadNamed (spreadBy v d)
+unfolding NamedVerdict SpreadNamed spreadBy
+named-by verdicts.Fine d p = tt
+named-by (verdicts.Refused r) d p = p
+
+-- every answer of the spread question is so named
+pub spread-named : (n w : ℕ) (labels counts : List ℕ) → SpreadNamed (spreadOf n w labels counts)
+unfolding spreadOf checkRows roomTests rowsTest
+spread-named n w labels counts =
+    let one : 1 ≤ 1 = omega arith in
+    let two : 1 ≤ 2 = omega arith in
+    let nine : 1 ≤ 9 = omega arith in
+    named-by (checkRows n n w labels counts) (farthest w labels counts n)
+    (named-then (roomTests n w labels counts) _
+    (named-then (test (sizesFit n w) 1 0) _ (named-test _ 1 0 one) (named-test _ 2 0 two))
+    (named-test _ 9 _ nine))

@@ -21,6 +21,7 @@ unfoldable pub farthest : ℕ → List ℕ → List ℕ → ℕ → ℕ
 farthest w labels counts zero = 0
 farthest w labels counts (suc v) = max (farthestIn (rowAt w labels counts v)) (farthest w labels counts v)
 
+-- behind fine tests: twice the largest joins
 unfoldable pub spreadBy : Verdict → ℕ → SpreadAnswer
 spreadBy verdicts.Fine joins = Spread (2 * joins)
 spreadBy (verdicts.Refused r) joins = Refused r
@@ -29,21 +30,23 @@ spreadBy (verdicts.Refused r) joins = Refused r
 unfoldable pub spreadOf : ℕ → ℕ → List ℕ → List ℕ → SpreadAnswer
 spreadOf n w labels counts = spreadBy (checkRows n n w labels counts) (farthest w labels counts n)
 
--- the paper's numbers of a spread answer: success is 0, and what is not named is 0
+-- the paper's numbers: a number, a place and the spread
 pub record SpreadTold : Type 0 where
   pub number : ℕ
   pub place : ℕ
   pub spread : ℕ
 
+-- success is 0; each refusal also gives a place; any other number that the call hands back is then 0
 unfoldable pub spreadTold : SpreadAnswer → SpreadTold
 spreadTold (Spread d) = record { number = 0; place = 0; spread = d }
 spreadTold (Refused r) = record { number = r .number; place = r .place; spread = 0 }
 
--- the paper's numbers of the spread question
+-- the same numbers from the tests and the largest joins
 unfoldable pub spreadToldBy : Verdict → ℕ → SpreadTold
 spreadToldBy verdicts.Fine joins = record { number = 0; place = 0; spread = 2 * joins }
 spreadToldBy (verdicts.Refused r) joins = record { number = r .number; place = r .place; spread = 0 }
 
+-- the paper's numbers of the spread question
 unfoldable pub spreadNumbers : ℕ → ℕ → List ℕ → List ℕ → SpreadTold
 spreadNumbers n w labels counts = spreadToldBy (checkRows n n w labels counts) (farthest w labels counts n)
 
