@@ -3,13 +3,14 @@ use crate::room::get;
 use crate::say;
 use crate::search::NONE;
 use crate::search::sum_of;
-use crate::stand::Answer;
-use crate::stand::Built;
-use crate::stand::ROOM;
-use crate::stand::Refusal;
 use crate::stand::build;
-use crate::stand::pair;
 use crate::tally::Tally;
+use build::Built;
+use refusal::ROOM;
+use refusal::Refusal;
+use rows::entry::Entry;
+use rows::pair::Answer;
+use rows::pair::pair;
 
 // Whether an answer is the count of the search.
 pub fn is_equal(said: Answer, joins: u32) -> bool {
@@ -30,7 +31,7 @@ fn compare_row(
     n: usize,
     w: usize,
     k: usize,
-    labels: &[u32],
+    labels: &[Entry],
     counts: &[u32],
     sums: &[u32],
     s: usize,
@@ -53,7 +54,7 @@ fn compare(
     n: usize,
     w: usize,
     k: usize,
-    labels: &[u32],
+    labels: &[Entry],
     counts: &[u32],
     sums: &[u32],
     before: Tally,
@@ -103,7 +104,7 @@ pub fn try_stop(
     starts: &[u32],
     places: &[u32],
     order: &[u32],
-    labels: &mut [u32],
+    labels: &mut [Entry],
     counts: &mut [u32],
     met: &mut [u32],
     queue: &mut [u32],

@@ -8,12 +8,13 @@ use crate::room::get;
 use crate::room::push;
 use crate::say;
 use crate::search::search_from;
-use crate::stand::Built;
-use crate::stand::Verdict;
 use crate::stand::build;
-use crate::stand::order_by_degree;
-use crate::stand::pair;
 use crate::tally::Tally;
+use build::Built;
+use links::order_by_degree;
+use refusal::Verdict;
+use rows::entry::Entry;
+use rows::pair::pair;
 
 // Frames of the grid, and most entries of a row.
 const FRAMES: usize = 4096;
@@ -56,7 +57,7 @@ fn lay_grid(starts: &mut [u32], places: &mut [u32]) {
 }
 
 // Whether every answer for s is the count of the search from s; the first that is not is printed.
-fn compare_source(labels: &[u32], counts: &[u32], s: usize, joins: &[u32]) -> bool {
+fn compare_source(labels: &[Entry], counts: &[u32], s: usize, joins: &[u32]) -> bool {
     let mut t = 0;
     while t < FRAMES {
         let said = pair(FRAMES, WIDTH, labels, counts, s, t);
@@ -74,7 +75,7 @@ fn compare_source(labels: &[u32], counts: &[u32], s: usize, joins: &[u32]) -> bo
 fn compare_sources(
     starts: &[u32],
     places: &[u32],
-    labels: &[u32],
+    labels: &[Entry],
     counts: &[u32],
     met: &mut [u32],
     queue: &mut [u32],
@@ -111,7 +112,7 @@ fn try_shuffled(
     starts: &[u32],
     places: &[u32],
     order: &mut [u32],
-    labels: &mut [u32],
+    labels: &mut [Entry],
     counts: &mut [u32],
     met: &mut [u32],
     queue: &mut [u32],
@@ -145,7 +146,7 @@ fn try_by_degree(
     starts: &[u32],
     places: &[u32],
     order: &mut [u32],
-    labels: &mut [u32],
+    labels: &mut [Entry],
     counts: &mut [u32],
     met: &mut [u32],
     queue: &mut [u32],
@@ -181,7 +182,7 @@ fn run(
     starts: &mut [u32],
     places: &mut [u32],
     order: &mut [u32],
-    labels: &mut [u32],
+    labels: &mut [Entry],
     counts: &mut [u32],
     met: &mut [u32],
     queue: &mut [u32],
@@ -193,7 +194,7 @@ fn run(
 
 // Lends the label room on.
 fn relay(
-    labels: &mut [u32; 1048576],
+    labels: &mut [Entry; 1048576],
     starts: &mut [u32],
     places: &mut [u32],
     order: &mut [u32],
@@ -205,7 +206,7 @@ fn relay(
 }
 
 pub fn grid() {
-    let mut labels = [0u32; 1048576];
+    let mut labels: [Entry; 1048576] = [0; 1048576];
     let mut starts = [0u32; 4097];
     let mut places = [0u32; 16128];
     let mut order = [0u32; 4096];

@@ -14,9 +14,10 @@ use crate::say;
 use crate::search::NONE;
 use crate::search::lower_sums;
 use crate::search::search_from;
-use crate::stand::Verdict;
-use crate::stand::order_by_degree;
 use crate::tally::Tally;
+use links::order_by_degree;
+use refusal::Verdict;
+use rows::entry::Entry;
 
 // Blocks compared.
 const BLOCKS: usize = 300;
@@ -92,7 +93,7 @@ fn try_hub(
     starts: &[u32],
     places: &[u32],
     order: &[u32],
-    labels: &mut [u32],
+    labels: &mut [Entry],
     counts: &mut [u32],
     met: &mut [u32],
     queue: &mut [u32],
@@ -126,7 +127,7 @@ fn try_order(
     starts: &[u32],
     places: &[u32],
     order: &[u32],
-    labels: &mut [u32],
+    labels: &mut [Entry],
     counts: &mut [u32],
     met: &mut [u32],
     queue: &mut [u32],
@@ -177,7 +178,7 @@ fn try_shuffled(
     starts: &[u32],
     places: &[u32],
     order: &mut [u32],
-    labels: &mut [u32],
+    labels: &mut [Entry],
     counts: &mut [u32],
     met: &mut [u32],
     queue: &mut [u32],
@@ -207,7 +208,7 @@ fn try_by_degree(
     starts: &[u32],
     places: &[u32],
     order: &mut [u32],
-    labels: &mut [u32],
+    labels: &mut [Entry],
     counts: &mut [u32],
     met: &mut [u32],
     queue: &mut [u32],
@@ -242,7 +243,7 @@ fn try_orders(
     starts: &[u32],
     places: &[u32],
     order: &mut [u32],
-    labels: &mut [u32],
+    labels: &mut [Entry],
     counts: &mut [u32],
     met: &mut [u32],
     queue: &mut [u32],
@@ -287,7 +288,7 @@ fn try_block(
     starts: &mut [u32],
     places: &mut [u32],
     order: &mut [u32],
-    labels: &mut [u32],
+    labels: &mut [Entry],
     counts: &mut [u32],
     met: &mut [u32],
     queue: &mut [u32],
@@ -346,7 +347,7 @@ fn run_block(
     starts: &mut [u32],
     places: &mut [u32],
     order: &mut [u32],
-    labels: &mut [u32],
+    labels: &mut [Entry],
     counts: &mut [u32],
     met: &mut [u32],
     queue: &mut [u32],
@@ -383,7 +384,7 @@ fn run(
     starts: &mut [u32],
     places: &mut [u32],
     order: &mut [u32],
-    labels: &mut [u32],
+    labels: &mut [Entry],
     counts: &mut [u32],
     met: &mut [u32],
     queue: &mut [u32],
@@ -427,7 +428,7 @@ pub fn random_blocks() {
     let mut starts = [0u32; 201];
     let mut places = [0u32; 40000];
     let mut order = [0u32; 200];
-    let mut labels = [0u32; 40000];
+    let mut labels: [Entry; 40000] = [0; 40000];
     let mut counts = [0u32; 200];
     let mut met = [0u32; 200];
     let mut queue = [0u32; 200];

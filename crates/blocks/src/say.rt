@@ -1,7 +1,7 @@
 // What the program prints.
 use crate::search::NONE;
-use crate::stand::Answer;
 use libc::STDOUT_FILENO;
+use rows::pair::Answer;
 
 pub fn text(words: &[u8]) {
     io::write_all(STDOUT_FILENO, words);

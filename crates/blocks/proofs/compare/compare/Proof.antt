@@ -1,19 +1,8 @@
-use Prim.Native.Nat.{ℕ, zero, suc, _+_, _-_, _*_, _/_, _%_, _^_, _≤_, _<_}
-use mathlib.Core.Path.{_≡_, refl, sym, ap, subst, _∙_}
-use mathlib.Core.List.{List, [], _∷_, _++_}
-use mathlib.Core.Logic.{_⊎_, inl, inr, ⊎-elim}
-use mathlib.Core.Bool.{Bool, true, false}
-use native.Mathlib.Omega.{arith}
+-- Nothing is lent to change. Each turn is one frame on, up to n.
+use Prim.Native.Nat.{_-_}
 use borrow.Author.Needs.{needs}
-use lib.ListN.{length, getD, set, take, drop, length-set}
 use Rattle.blocks.proofs.compare.compare.Statement.{statement}
 use Rattle.blocks.proofs.compare.compare.Tie as tie
-use Rattle.blocks.proofs.compare.compare.Reads as reads
-use Rattle.blocks.proofs.compare.compare.Lts as lts
-use Rattle.blocks.proofs.compare.compare_row.Reads as compare-row-reads
-use Rattle.blocks.proofs.tally.Tally.built.Reads as built-reads
-use Rattle.blocks.proofs.tally.Tally.compared.Reads as compared-reads
-use Rattle.blocks.proofs.tally.Tally.unequal.Reads as unequal-reads
 
 abbrev Inv-loop : tie.InvT-loop
 Inv-loop n w k labels counts sums tally₀ s₀ tally s = Unit {0}

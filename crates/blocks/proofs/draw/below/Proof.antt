@@ -1,16 +1,10 @@
-use Prim.Native.Nat.{ℕ, zero, suc, _+_, _-_, _*_, _/_, _%_, _^_, _≤_, _<_}
-use mathlib.Core.Path.{_≡_, refl, sym, ap, subst, _∙_}
-use mathlib.Core.List.{List, [], _∷_, _++_}
-use mathlib.Core.Logic.{_⊎_, inl, inr, ⊎-elim}
-use mathlib.Core.Bool.{Bool, true, false}
+-- The rest of a division is at most what was divided, and that is below 2,147,483,647.
+use Prim.Native.Nat.{_%_}
 use native.Mathlib.Omega.{arith}
 use native.Mathlib.Nat.{mod-le}
-use lib.ListN.{length, getD, set, take, drop, length-set}
 use borrow.Author.Needs.{needs}
 use Rattle.blocks.proofs.draw.below.Statement.{statement}
 use Rattle.blocks.proofs.draw.below.Tie as tie
-use Rattle.blocks.proofs.draw.below.Reads as reads
-use Rattle.blocks.proofs.draw.below.Lts as lts
 
 returns : tie.Need-returns
 returns c = search needs

@@ -1,18 +1,9 @@
-use Prim.Native.Nat.{ℕ, zero, suc, _+_, _-_, _*_, _/_, _%_, _^_, _≤_, _<_}
-use mathlib.Core.Path.{_≡_, refl, sym, ap, subst, _∙_}
-use mathlib.Core.List.{List, [], _∷_, _++_}
-use mathlib.Core.Logic.{_⊎_, inl, inr, ⊎-elim}
-use mathlib.Core.Bool.{Bool, true, false}
-use native.Mathlib.Omega.{arith}
+-- Invariant: the square keeps its length. Each turn leaves one join less to draw.
+use mathlib.Core.Path.{_≡_}
 use borrow.Author.Needs.{needs}
-use lib.ListN.{length, getD, set, take, drop, length-set}
+use lib.ListN.{length}
 use Rattle.blocks.proofs.draw.draw.Statement.{statement}
 use Rattle.blocks.proofs.draw.draw.Tie as tie
-use Rattle.blocks.proofs.draw.draw.Reads as reads
-use Rattle.blocks.proofs.draw.draw.Lts as lts
-use Rattle.blocks.proofs.draw.below.Reads as below-reads
-use Rattle.blocks.proofs.draw.mark.Reads as mark-reads
-use Rattle.blocks.proofs.draw.roll.Reads as roll-reads
 
 abbrev Inv-loop : tie.InvT-loop
 Inv-loop marks₀ n joins first seed₀ left₀ marks seed left = length marks ≡ length marks₀

@@ -1,16 +1,10 @@
-use Prim.Native.Nat.{ℕ, zero, suc, _+_, _-_, _*_, _/_, _%_, _^_, _≤_, _<_}
-use mathlib.Core.Path.{_≡_, refl, sym, ap, subst, _∙_}
-use mathlib.Core.List.{List, [], _∷_, _++_}
-use mathlib.Core.Logic.{_⊎_, inl, inr, ⊎-elim}
-use mathlib.Core.Bool.{Bool, true, false}
-use native.Mathlib.Omega.{arith}
+-- Invariant: the square keeps its length, and v is at least 1, so that v - 1 does not wrap. Each turn is one frame on, up to n.
+use Prim.Native.Nat.{_-_, _≤_}
+use mathlib.Core.Path.{_≡_}
 use borrow.Author.Needs.{needs}
-use lib.ListN.{length, getD, set, take, drop, length-set}
+use lib.ListN.{length}
 use Rattle.blocks.proofs.draw.draw_path.Statement.{statement}
 use Rattle.blocks.proofs.draw.draw_path.Tie as tie
-use Rattle.blocks.proofs.draw.draw_path.Reads as reads
-use Rattle.blocks.proofs.draw.draw_path.Lts as lts
-use Rattle.blocks.proofs.draw.mark.Reads as mark-reads
 
 abbrev Inv-loop : tie.InvT-loop
 Inv-loop marks₀ n v₀ marks v = (length marks ≡ length marks₀) × (1 ≤ v)

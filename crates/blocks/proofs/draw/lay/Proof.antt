@@ -1,17 +1,10 @@
-use Prim.Native.Nat.{ℕ, zero, suc, _+_, _-_, _*_, _/_, _%_, _^_, _≤_, _<_}
-use mathlib.Core.Path.{_≡_, refl, sym, ap, subst, _∙_}
-use mathlib.Core.List.{List, [], _∷_, _++_}
-use mathlib.Core.Logic.{_⊎_, inl, inr, ⊎-elim}
-use mathlib.Core.Bool.{Bool, true, false}
-use native.Mathlib.Omega.{arith}
+-- Invariant: starts and places keep their lengths. Each turn is one frame on, up to n.
+use Prim.Native.Nat.{_-_}
+use mathlib.Core.Path.{_≡_}
 use borrow.Author.Needs.{needs}
-use lib.ListN.{length, getD, set, take, drop, length-set}
+use lib.ListN.{length}
 use Rattle.blocks.proofs.draw.lay.Statement.{statement}
 use Rattle.blocks.proofs.draw.lay.Tie as tie
-use Rattle.blocks.proofs.draw.lay.Reads as reads
-use Rattle.blocks.proofs.draw.lay.Lts as lts
-use Rattle.blocks.proofs.draw.lay_list.Reads as lay-list-reads
-use Rattle.blocks.proofs.room.push.Reads as push-reads
 
 abbrev Inv-loop : tie.InvT-loop
 Inv-loop marks n starts₀ places₀ at₀ v₀ starts places at v = (length starts ≡ length starts₀) × (length places ≡ length places₀)

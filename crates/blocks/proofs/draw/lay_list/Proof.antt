@@ -1,17 +1,11 @@
-use Prim.Native.Nat.{ℕ, zero, suc, _+_, _-_, _*_, _/_, _%_, _^_, _≤_, _<_}
-use mathlib.Core.Path.{_≡_, refl, sym, ap, subst, _∙_}
-use mathlib.Core.List.{List, [], _∷_, _++_}
-use mathlib.Core.Logic.{_⊎_, inl, inr, ⊎-elim}
-use mathlib.Core.Bool.{Bool, true, false}
-use native.Mathlib.Omega.{arith}
+-- Invariant: the places keep their length. Each turn is one frame on, up to n.
+use Prim.Native.Nat.{_-_}
+use mathlib.Core.Path.{_≡_}
+use mathlib.Core.Logic.{⊎-elim}
 use borrow.Author.Needs.{needs}
-use lib.ListN.{length, getD, set, take, drop, length-set}
+use lib.ListN.{length}
 use Rattle.blocks.proofs.draw.lay_list.Statement.{statement}
 use Rattle.blocks.proofs.draw.lay_list.Tie as tie
-use Rattle.blocks.proofs.draw.lay_list.Reads as reads
-use Rattle.blocks.proofs.draw.lay_list.Lts as lts
-use Rattle.blocks.proofs.draw.is_marked.Reads as is-marked-reads
-use Rattle.blocks.proofs.room.push.Reads as push-reads
 
 abbrev Inv-loop : tie.InvT-loop
 Inv-loop marks n v places₀ from at₀ u₀ places at u = length places ≡ length places₀

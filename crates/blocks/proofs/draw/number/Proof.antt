@@ -1,16 +1,10 @@
-use Prim.Native.Nat.{ℕ, zero, suc, _+_, _-_, _*_, _/_, _%_, _^_, _≤_, _<_}
-use mathlib.Core.Path.{_≡_, refl, sym, ap, subst, _∙_}
-use mathlib.Core.List.{List, [], _∷_, _++_}
-use mathlib.Core.Logic.{_⊎_, inl, inr, ⊎-elim}
-use mathlib.Core.Bool.{Bool, true, false}
-use native.Mathlib.Omega.{arith}
+-- Invariant: the order keeps its length. Each turn is one frame on, up to n.
+use Prim.Native.Nat.{_-_}
+use mathlib.Core.Path.{_≡_}
 use borrow.Author.Needs.{needs}
-use lib.ListN.{length, getD, set, take, drop, length-set}
+use lib.ListN.{length}
 use Rattle.blocks.proofs.draw.number.Statement.{statement}
 use Rattle.blocks.proofs.draw.number.Tie as tie
-use Rattle.blocks.proofs.draw.number.Reads as reads
-use Rattle.blocks.proofs.draw.number.Lts as lts
-use Rattle.blocks.proofs.room.push.Reads as push-reads
 
 abbrev Inv-loop : tie.InvT-loop
 Inv-loop order₀ n v₀ order v = length order ≡ length order₀

@@ -1,20 +1,9 @@
-use Prim.Native.Nat.{ℕ, zero, suc, _+_, _-_, _*_, _/_, _%_, _^_, _≤_, _<_}
-use mathlib.Core.Path.{_≡_, refl, sym, ap, subst, _∙_}
-use mathlib.Core.List.{List, [], _∷_, _++_}
-use mathlib.Core.Logic.{_⊎_, inl, inr, ⊎-elim}
-use mathlib.Core.Bool.{Bool, true, false}
-use native.Mathlib.Omega.{arith}
+-- Invariant: the order keeps its length. Each turn leaves one rank less to fill.
+use mathlib.Core.Path.{_≡_}
 use borrow.Author.Needs.{needs}
-use lib.ListN.{length, getD, set, take, drop, length-set}
+use lib.ListN.{length}
 use Rattle.blocks.proofs.draw.shuffle.Statement.{statement}
 use Rattle.blocks.proofs.draw.shuffle.Tie as tie
-use Rattle.blocks.proofs.draw.shuffle.Reads as reads
-use Rattle.blocks.proofs.draw.shuffle.Lts as lts
-use Rattle.blocks.proofs.draw.below.Reads as below-reads
-use Rattle.blocks.proofs.draw.number.Reads as number-reads
-use Rattle.blocks.proofs.draw.roll.Reads as roll-reads
-use Rattle.blocks.proofs.room.get.Reads as get-reads
-use Rattle.blocks.proofs.room.put.Reads as put-reads
 
 abbrev Inv-loop : tie.InvT-loop
 Inv-loop order₀ n first seed₀ left₀ order seed left = length order ≡ length order₀

@@ -1,19 +1,8 @@
-use Prim.Native.Nat.{ℕ, zero, suc, _+_, _-_, _*_, _/_, _%_, _^_, _≤_, _<_}
-use mathlib.Core.Path.{_≡_, refl, sym, ap, subst, _∙_}
-use mathlib.Core.List.{List, [], _∷_, _++_}
-use mathlib.Core.Logic.{_⊎_, inl, inr, ⊎-elim}
-use mathlib.Core.Bool.{Bool, true, false}
-use native.Mathlib.Omega.{arith}
+-- Nothing is lent to change. Each turn is one frame on, up to 4,096.
+use Prim.Native.Nat.{_-_}
 use borrow.Author.Needs.{needs}
-use lib.ListN.{length, getD, set, take, drop, length-set}
 use Rattle.blocks.proofs.grid.compare_source.Statement.{statement}
 use Rattle.blocks.proofs.grid.compare_source.Tie as tie
-use Rattle.blocks.proofs.grid.compare_source.Reads as reads
-use Rattle.blocks.proofs.grid.compare_source.Lts as lts
-use Rattle.blocks.proofs.compare.is_equal.Reads as is-equal-reads
-use Rattle.blocks.proofs.room.get.Reads as get-reads
-use Rattle.blocks.proofs.say.difference.Reads as difference-reads
-use Rattle.blocks.proofs.stand.pair.Reads as pair-reads
 
 abbrev Inv-loop : tie.InvT-loop
 Inv-loop labels counts s joins t₀ t = Unit {0}

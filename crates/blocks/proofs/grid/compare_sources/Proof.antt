@@ -1,22 +1,9 @@
-use Prim.Native.Nat.{ℕ, zero, suc, _+_, _-_, _*_, _/_, _%_, _^_, _≤_, _<_}
-use mathlib.Core.Path.{_≡_, refl, sym, ap, subst, _∙_}
-use mathlib.Core.List.{List, [], _∷_, _++_}
-use mathlib.Core.Logic.{_⊎_, inl, inr, ⊎-elim}
-use mathlib.Core.Bool.{Bool, true, false}
-use native.Mathlib.Omega.{arith}
+-- Invariant: the work rooms keep their lengths. Each turn leaves one source less.
+use mathlib.Core.Path.{_≡_}
 use borrow.Author.Needs.{needs}
-use lib.ListN.{length, getD, set, take, drop, length-set}
+use lib.ListN.{length}
 use Rattle.blocks.proofs.grid.compare_sources.Statement.{statement}
 use Rattle.blocks.proofs.grid.compare_sources.Tie as tie
-use Rattle.blocks.proofs.grid.compare_sources.Reads as reads
-use Rattle.blocks.proofs.grid.compare_sources.Lts as lts
-use Rattle.blocks.proofs.draw.below.Reads as below-reads
-use Rattle.blocks.proofs.draw.roll.Reads as roll-reads
-use Rattle.blocks.proofs.grid.compare_source.Reads as compare-source-reads
-use Rattle.blocks.proofs.search.search_from.Reads as search-from-reads
-use Rattle.blocks.proofs.tally.Tally.compared.Reads as compared-reads
-use Rattle.blocks.proofs.tally.Tally.new.Reads as new-reads
-use Rattle.blocks.proofs.tally.Tally.unequal.Reads as unequal-reads
 
 abbrev Inv-loop : tie.InvT-loop
 Inv-loop starts places labels counts met₀ queue₀ tally₀ seed₀ left₀ met queue tally seed left = (length met ≡ length met₀) × (length queue ≡ length queue₀)

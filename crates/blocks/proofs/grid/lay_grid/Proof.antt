@@ -1,17 +1,10 @@
-use Prim.Native.Nat.{ℕ, zero, suc, _+_, _-_, _*_, _/_, _%_, _^_, _≤_, _<_}
-use mathlib.Core.Path.{_≡_, refl, sym, ap, subst, _∙_}
-use mathlib.Core.List.{List, [], _∷_, _++_}
-use mathlib.Core.Logic.{_⊎_, inl, inr, ⊎-elim}
-use mathlib.Core.Bool.{Bool, true, false}
-use native.Mathlib.Omega.{arith}
+-- Invariant: starts and places keep their lengths. Each turn is one frame on, up to 4,096.
+use Prim.Native.Nat.{_-_}
+use mathlib.Core.Path.{_≡_}
 use borrow.Author.Needs.{needs}
-use lib.ListN.{length, getD, set, take, drop, length-set}
+use lib.ListN.{length}
 use Rattle.blocks.proofs.grid.lay_grid.Statement.{statement}
 use Rattle.blocks.proofs.grid.lay_grid.Tie as tie
-use Rattle.blocks.proofs.grid.lay_grid.Reads as reads
-use Rattle.blocks.proofs.grid.lay_grid.Lts as lts
-use Rattle.blocks.proofs.grid.lay_frame.Reads as lay-frame-reads
-use Rattle.blocks.proofs.room.push.Reads as push-reads
 
 abbrev Inv-loop : tie.InvT-loop
 Inv-loop starts₀ places₀ at₀ v₀ starts places at v = (length starts ≡ length starts₀) × (length places ≡ length places₀)

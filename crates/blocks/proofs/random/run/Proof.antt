@@ -1,18 +1,10 @@
-use Prim.Native.Nat.{ℕ, zero, suc, _+_, _-_, _*_, _/_, _%_, _^_, _≤_, _<_}
-use mathlib.Core.Path.{_≡_, refl, sym, ap, subst, _∙_}
-use mathlib.Core.List.{List, [], _∷_, _++_}
-use mathlib.Core.Logic.{_⊎_, inl, inr, ⊎-elim}
-use mathlib.Core.Bool.{Bool, true, false}
-use native.Mathlib.Omega.{arith}
+-- Invariant: the rooms keep their lengths. Each turn is one block on, up to 300.
+use Prim.Native.Nat.{_-_}
+use mathlib.Core.Path.{_≡_}
 use borrow.Author.Needs.{needs}
-use lib.ListN.{length, getD, set, take, drop, length-set}
+use lib.ListN.{length}
 use Rattle.blocks.proofs.random.run.Statement.{statement}
 use Rattle.blocks.proofs.random.run.Tie as tie
-use Rattle.blocks.proofs.random.run.Reads as reads
-use Rattle.blocks.proofs.random.run.Lts as lts
-use Rattle.blocks.proofs.random.report.Reads as report-reads
-use Rattle.blocks.proofs.random.run_block.Reads as run-block-reads
-use Rattle.blocks.proofs.tally.Tally.new.Reads as new-reads
 
 abbrev Inv-loop : tie.InvT-loop
 Inv-loop marks₀ starts₀ places₀ order₀ labels₀ counts₀ met₀ queue₀ sums₀ tally₀ block₀ marks starts places order labels counts met queue sums tally block =

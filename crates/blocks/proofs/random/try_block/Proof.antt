@@ -1,18 +1,11 @@
-use Prim.Native.Nat.{ℕ, zero, suc, _+_, _-_, _*_, _/_, _%_, _^_, _≤_, _<_}
-use mathlib.Core.Path.{_≡_, refl, sym, ap, subst, _∙_}
-use mathlib.Core.List.{List, [], _∷_, _++_}
-use mathlib.Core.Logic.{_⊎_, inl, inr, ⊎-elim}
-use mathlib.Core.Bool.{Bool, true, false}
+-- Each part is cut within its room, since the room was tested to be as long; n * w is at most 200 * 200.
+use mathlib.Core.Path.{sym}
 use native.Mathlib.Nat.{mul-le-mul}
 use native.Mathlib.Omega.{arith}
 use lib.Seq.{length-take-le}
-use lib.ListN.{length, getD, set, take, drop, length-set}
 use borrow.Author.Needs.{needs}
 use Rattle.blocks.proofs.random.try_block.Statement.{statement}
 use Rattle.blocks.proofs.random.try_block.Tie as tie
-use Rattle.blocks.proofs.random.try_block.Reads as reads
-use Rattle.blocks.proofs.random.try_block.Lts as lts
-use Rattle.blocks.proofs.random.try_orders.Reads as try-orders-reads
 
 returns : tie.Need-returns
 returns c = search needs

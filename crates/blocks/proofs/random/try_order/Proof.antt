@@ -1,18 +1,10 @@
-use Prim.Native.Nat.{ℕ, zero, suc, _+_, _-_, _*_, _/_, _%_, _^_, _≤_, _<_}
-use mathlib.Core.Path.{_≡_, refl, sym, ap, subst, _∙_}
-use mathlib.Core.List.{List, [], _∷_, _++_}
-use mathlib.Core.Logic.{_⊎_, inl, inr, ⊎-elim}
-use mathlib.Core.Bool.{Bool, true, false}
-use native.Mathlib.Omega.{arith}
+-- Invariant: the rooms keep their lengths; n is named so that k + 1 is seen to fit. Each turn is one rank on, up to n.
+use Prim.Native.Nat.{_-_, _<_}
+use mathlib.Core.Path.{_≡_}
 use borrow.Author.Needs.{needs}
-use lib.ListN.{length, getD, set, take, drop, length-set}
+use lib.ListN.{length}
 use Rattle.blocks.proofs.random.try_order.Statement.{statement}
 use Rattle.blocks.proofs.random.try_order.Tie as tie
-use Rattle.blocks.proofs.random.try_order.Reads as reads
-use Rattle.blocks.proofs.random.try_order.Lts as lts
-use Rattle.blocks.proofs.compare.try_stop.Reads as try-stop-reads
-use Rattle.blocks.proofs.random.try_hub.Reads as try-hub-reads
-use Rattle.blocks.proofs.room.fill.Reads as fill-reads
 
 abbrev Inv-loop : tie.InvT-loop
 Inv-loop n w starts places order labels₀ counts₀ met₀ queue₀ sums₀ tally₀ k₀ labels counts met queue sums tally k =

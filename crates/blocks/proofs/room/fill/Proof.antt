@@ -1,15 +1,10 @@
-use Prim.Native.Nat.{ℕ, zero, suc, _+_, _-_, _*_, _/_, _%_, _^_, _≤_, _<_}
-use mathlib.Core.Path.{_≡_, refl, sym, ap, subst, _∙_}
-use mathlib.Core.List.{List, [], _∷_, _++_}
-use mathlib.Core.Logic.{_⊎_, inl, inr, ⊎-elim}
-use mathlib.Core.Bool.{Bool, true, false}
-use native.Mathlib.Omega.{arith}
+-- Invariant: the room keeps its length, and `at` stays within it. Each turn is one place on, up to the length.
+use Prim.Native.Nat.{_-_, _≤_}
+use mathlib.Core.Path.{_≡_}
 use borrow.Author.Needs.{needs}
-use lib.ListN.{length, getD, set, take, drop, length-set}
+use lib.ListN.{length}
 use Rattle.blocks.proofs.room.fill.Statement.{statement}
 use Rattle.blocks.proofs.room.fill.Tie as tie
-use Rattle.blocks.proofs.room.fill.Reads as reads
-use Rattle.blocks.proofs.room.fill.Lts as lts
 
 abbrev Inv-loop : tie.InvT-loop
 Inv-loop room₀ value at₀ room at = (length room ≡ length room₀) × (at ≤ length room₀)

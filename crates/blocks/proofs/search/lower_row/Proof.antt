@@ -1,17 +1,11 @@
-use Prim.Native.Nat.{ℕ, zero, suc, _+_, _-_, _*_, _/_, _%_, _^_, _≤_, _<_}
-use mathlib.Core.Path.{_≡_, refl, sym, ap, subst, _∙_}
-use mathlib.Core.List.{List, [], _∷_, _++_}
-use mathlib.Core.Logic.{_⊎_, inl, inr, ⊎-elim}
-use mathlib.Core.Bool.{Bool, true, false}
-use native.Mathlib.Omega.{arith}
+-- Invariant: the sums keep their length. Each turn is one frame on, up to n, which is at most 200: no place wraps.
+use Prim.Native.Nat.{_-_}
+use mathlib.Core.Path.{_≡_}
+use mathlib.Core.Logic.{⊎-elim}
 use borrow.Author.Needs.{needs}
-use lib.ListN.{length, getD, set, take, drop, length-set}
+use lib.ListN.{length}
 use Rattle.blocks.proofs.search.lower_row.Statement.{statement}
 use Rattle.blocks.proofs.search.lower_row.Tie as tie
-use Rattle.blocks.proofs.search.lower_row.Reads as reads
-use Rattle.blocks.proofs.search.lower_row.Lts as lts
-use Rattle.blocks.proofs.room.get.Reads as get-reads
-use Rattle.blocks.proofs.room.put.Reads as put-reads
 
 abbrev Inv-loop : tie.InvT-loop
 Inv-loop n s joins sums₀ there t₀ sums t = length sums ≡ length sums₀

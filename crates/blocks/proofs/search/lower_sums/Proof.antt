@@ -1,16 +1,10 @@
-use Prim.Native.Nat.{ℕ, zero, suc, _+_, _-_, _*_, _/_, _%_, _^_, _≤_, _<_}
-use mathlib.Core.Path.{_≡_, refl, sym, ap, subst, _∙_}
-use mathlib.Core.List.{List, [], _∷_, _++_}
-use mathlib.Core.Logic.{_⊎_, inl, inr, ⊎-elim}
-use mathlib.Core.Bool.{Bool, true, false}
-use native.Mathlib.Omega.{arith}
+-- Invariant: the sums keep their length. Each turn is one frame on, up to n.
+use Prim.Native.Nat.{_-_}
+use mathlib.Core.Path.{_≡_}
 use borrow.Author.Needs.{needs}
-use lib.ListN.{length, getD, set, take, drop, length-set}
+use lib.ListN.{length}
 use Rattle.blocks.proofs.search.lower_sums.Statement.{statement}
 use Rattle.blocks.proofs.search.lower_sums.Tie as tie
-use Rattle.blocks.proofs.search.lower_sums.Reads as reads
-use Rattle.blocks.proofs.search.lower_sums.Lts as lts
-use Rattle.blocks.proofs.search.lower_row.Reads as lower-row-reads
 
 abbrev Inv-loop : tie.InvT-loop
 Inv-loop n joins sums₀ s₀ sums s = length sums ≡ length sums₀

@@ -1,17 +1,10 @@
-use Prim.Native.Nat.{ℕ, zero, suc, _+_, _-_, _*_, _/_, _%_, _^_, _≤_, _<_}
-use mathlib.Core.Path.{_≡_, refl, sym, ap, subst, _∙_}
-use mathlib.Core.List.{List, [], _∷_, _++_}
-use mathlib.Core.Logic.{_⊎_, inl, inr, ⊎-elim}
-use mathlib.Core.Bool.{Bool, true, false}
-use native.Mathlib.Omega.{arith}
+-- Invariant: both rooms keep their lengths. Each turn is one place of the list on, up to its end.
+use Prim.Native.Nat.{_-_}
+use mathlib.Core.Path.{_≡_}
 use borrow.Author.Needs.{needs}
-use lib.ListN.{length, getD, set, take, drop, length-set}
+use lib.ListN.{length}
 use Rattle.blocks.proofs.search.reach.Statement.{statement}
 use Rattle.blocks.proofs.search.reach.Tie as tie
-use Rattle.blocks.proofs.search.reach.Reads as reads
-use Rattle.blocks.proofs.search.reach.Lts as lts
-use Rattle.blocks.proofs.room.get.Reads as get-reads
-use Rattle.blocks.proofs.search.meet.Reads as meet-reads
 
 abbrev Inv-loop : tie.InvT-loop
 Inv-loop starts places u joins₀ queue₀ tail next end₀ at₀ last joins queue end at = (length joins ≡ length joins₀) × (length queue ≡ length queue₀)

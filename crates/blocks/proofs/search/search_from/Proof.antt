@@ -1,20 +1,10 @@
-use Prim.Native.Nat.{ℕ, zero, suc, _+_, _-_, _*_, _/_, _%_, _^_, _≤_, _<_}
-use mathlib.Core.Path.{_≡_, refl, sym, ap, subst, _∙_}
-use mathlib.Core.List.{List, [], _∷_, _++_}
-use mathlib.Core.Logic.{_⊎_, inl, inr, ⊎-elim}
-use mathlib.Core.Bool.{Bool, true, false}
-use native.Mathlib.Omega.{arith}
+-- Invariant: both rooms keep their lengths. Each turn takes one frame from the queue, at most n of them.
+use Prim.Native.Nat.{_-_}
+use mathlib.Core.Path.{_≡_}
 use borrow.Author.Needs.{needs}
-use lib.ListN.{length, getD, set, take, drop, length-set}
+use lib.ListN.{length}
 use Rattle.blocks.proofs.search.search_from.Statement.{statement}
 use Rattle.blocks.proofs.search.search_from.Tie as tie
-use Rattle.blocks.proofs.search.search_from.Reads as reads
-use Rattle.blocks.proofs.search.search_from.Lts as lts
-use Rattle.blocks.proofs.room.fill.Reads as fill-reads
-use Rattle.blocks.proofs.room.get.Reads as get-reads
-use Rattle.blocks.proofs.room.push.Reads as push-reads
-use Rattle.blocks.proofs.room.put.Reads as put-reads
-use Rattle.blocks.proofs.search.reach.Reads as reach-reads
 
 abbrev Inv-loop : tie.InvT-loop
 Inv-loop n starts places hub joins₀ queue₀ head₀ tail₀ joins queue head tail = (length joins ≡ length joins₀) × (length queue ≡ length queue₀)
