@@ -9,7 +9,9 @@ use crate::draw::lay;
 use crate::draw::roll;
 use crate::draw::shuffle;
 use crate::room::fill;
+use crate::room::front;
 use crate::room::get;
+use crate::room::part;
 use crate::say;
 use crate::search::NONE;
 use crate::search::lower_sums;
@@ -303,38 +305,17 @@ fn try_block(
     }
     let ends = n + 1;
     let size = n * w;
-    if starts.len() < ends {
-        return before;
-    }
-    if places.len() < last {
-        return before;
-    }
-    if order.len() < n {
-        return before;
-    }
-    if labels.len() < size {
-        return before;
-    }
-    if counts.len() < n {
-        return before;
-    }
-    if met.len() < n {
-        return before;
-    }
-    if queue.len() < n {
-        return before;
-    }
     try_orders(
         n,
         w,
         seed,
-        &starts[..ends],
-        &places[..last],
-        &mut order[..n],
-        &mut labels[..size],
-        &mut counts[..n],
-        &mut met[..n],
-        &mut queue[..n],
+        part(starts, ends),
+        part(places, last),
+        front(order, n),
+        front(labels, size),
+        front(counts, n),
+        front(met, n),
+        front(queue, n),
         sums,
         before,
     )

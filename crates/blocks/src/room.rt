@@ -19,6 +19,22 @@ pub fn push(room: &mut [u32], at: usize, value: usize) -> usize {
     at
 }
 
+// The first n places of a room, and all of it where there are fewer: the library then says LENGTH.
+pub fn part(room: &[u32], n: usize) -> &[u32] {
+    if room.len() < n {
+        return room;
+    }
+    &room[..n]
+}
+
+// The same part, to be changed.
+pub fn front(room: &mut [u32], n: usize) -> &mut [u32] {
+    if room.len() < n {
+        return room;
+    }
+    &mut room[..n]
+}
+
 // Every place of a room set to one value.
 pub fn fill(room: &mut [u32], value: u32) {
     let mut at = 0;
