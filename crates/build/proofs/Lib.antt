@@ -2,3 +2,9 @@ pub mod DropNotes
 pub mod DropWithin
 pub mod RoomLaws
 pub mod RoomMarks
+pub mod RoomWalk
+pub mod RunLaws
+pub mod RunStops
+pub mod RunState
+pub mod BuildTests
+pub mod BuildOut
