@@ -1,6 +1,6 @@
 -- The drop test of a frame: it holds exactly if the answer for the hub and the frame is at most the level.
 use Prim.Native.Nat.{ℕ, zero, suc, _+_, _-_, _≤_, _<_, min}
-use mathlib.Core.Path.{_≡_, refl, sym, ap, _∙_}
+use mathlib.Core.Path.{_≡_, refl, ap}
 use mathlib.Core.Bool.{Bool, true, false, cond}
 use mathlib.Core.List.{List, [], _∷_}
 use native.Mathlib.Nat.{sub-zero}
@@ -11,7 +11,7 @@ use native.Mathlib.Decide.{ℕ-discrete}
 use lib.Dec.{leb, eqb}
 use borrow.Author.Tests.{le-leb, lt-leb, leb-true, eq-eqb, ne-eqb}
 use Rattle.basics.specs.Places.{some, least}
-use Rattle.basics.proofs.Laws.{bcase, by-cases, not-both, less-one, lt-or-ge, same-truth, cond-true, cond-false, least-le, least-found, some-hit, some-miss, some-end, some-one, some-found}
+use Rattle.basics.proofs.Laws.{by-cases, less-one, lt-or-ge, same-truth, cond-true, cond-false, least-le, least-found, some-hit, some-miss, some-end, some-one, some-found}
 use Rattle.theory.specs.Rows.{Row, at, answer}
 use Rattle.rows.specs.Entry.{rankOf, joinsOf, decode}
 use Rattle.build.specs.Explore.{within}
@@ -89,14 +89,14 @@ at-found B (e ∷ es) r h =
     absurd (omega (arith, other))))
 
 -- the notes say what the hub's row has for a rank, as far as it matters below B
-pub Notes : ℕ → ℕ → Row → List ℕ → Type 0
+abbrev pub Notes : ℕ → ℕ → Row → List ℕ → Type 0
 Notes B n own noted = (r : ℕ) → r < n → at B own r ≡ min B (getD noted r 0)
 
 -- the drop test is the answer's comparison with the level
 pub within-answer : (B n : ℕ) (own : Row) (noted row : List ℕ) (level : ℕ) → Notes B n own noted
     → ((i : ℕ) → i < length row → rankOf (getD row i 0) < n) → level < B
     → within noted row level ≡ leb (answer B n own (decode row)) level
-unfolding within answer Notes
+unfolding within answer
 within-answer B n own noted row level notes low small =
     let sums : ℕ → ℕ = λ r. at B own r + at B (decode row) r in
     same-truth _ _

@@ -1,3 +1,17 @@
 pub mod Bits
+pub mod Fields
+pub mod Fit
+pub mod Gather
+pub mod Heading
+pub mod Inversion
+pub mod LayoutLaws
 pub mod Packed
 pub mod Pen
+pub mod ReadBack
+pub mod ReadFit
+pub mod ReadWrite
+pub mod Reader
+pub mod Steps
+pub mod Stores
+pub mod WriteRead
+pub mod Writing
