@@ -51,7 +51,7 @@ module _ {n w k : ℕ} {S L O labels counts met queue : List ℕ} (i : MakeIn n 
         counts-zero = c ∙ ap (λ (j : ℕ). replicate j 0) (i .counts-long);
         met-zero = m ∙ ap (λ (j : ℕ). replicate j 0) (i .met-long);
         queue-zero = q ∙ ap (λ (j : ℕ). replicate j 0) (i .queue-long);
-        noted-far = refl
+        noted-far = refl;
       })
 
 module _ {n′ n w k : ℕ} {S L O : List ℕ} {verdict : Verdict} {labels counts met queue : List ℕ}
@@ -115,7 +115,7 @@ module _ (n w k : ℕ) (S L O labels counts met queue : List ℕ) where
           labels-long = p .rooms-fit .labels-long;
           counts-long = p .rooms-fit .counts-long;
           met-long = p .rooms-fit .met-long;
-          queue-long = p .rooms-fit .queue-long
+          queue-long = p .rooms-fit .queue-long;
         })
 
     pub walked-out : (out : Outcome)

@@ -54,7 +54,7 @@ sizes-hold n w k places e =
       wide = leb-true 1 w (frame .1);
       width = leb-true w 256 (inner .1);
       stop = leb-true k n (rest .0);
-      most = leb-true places 65536 (rest .1)
+      most = leb-true places 65536 (rest .1);
     }
 
 pub rooms-hold : (n w starts order labels counts met queue : ℕ) → buildRooms n w starts order labels counts met queue ≡ true
@@ -72,7 +72,7 @@ rooms-hold n w starts order labels counts met queue e =
       labels-long = eqb-true labels (n * w) (d .0);
       counts-long = eqb-true counts n (f .0);
       met-long = eqb-true met n (g .0);
-      queue-long = eqb-true queue n (g .1)
+      queue-long = eqb-true queue n (g .1);
     }
 
 module _ (n w k : ℕ) (S L O : List ℕ) (labels counts met queue : ℕ) where
@@ -134,5 +134,5 @@ module _ (n w k : ℕ) (S L O : List ℕ) (labels counts met queue : ℕ) where
         sizes-fit = s;
         rooms-fit = l;
         block = links-sound n S L (d .0) (f .0) (s .one) (s .frames) (s .most) (l .starts-long);
-        order = order-sound n O (f .1) (l .order-long)
+        order = order-sound n O (f .1) (l .order-long);
       }

@@ -93,11 +93,11 @@ module _ {n : ℕ} {S L O : List ℕ} (block : Block n 1 S L ones) (order : Orde
   laid-back =
       record {
         places =
-          labels-ext n w (rowBy n S L O r) (rowsIn w (labelsOf n w (rowBy n S L O r)) (countsOf n (rowBy n S L O r))) wide
-          (λ v h. sym (rows-back v h));
+            labels-ext n w (rowBy n S L O r) (rowsIn w (labelsOf n w (rowBy n S L O r)) (countsOf n (rowBy n S L O r))) wide
+            (λ v h. sym (rows-back v h));
         numbers =
-          counts-ext n (rowBy n S L O r) (rowsIn w (labelsOf n w (rowBy n S L O r)) (countsOf n (rowBy n S L O r)))
-          (λ v h. sym (rows-back v h))
+            counts-ext n (rowBy n S L O r) (rowsIn w (labelsOf n w (rowBy n S L O r)) (countsOf n (rowBy n S L O r)))
+            (λ v h. sym (rows-back v h));
       }
 
   rank-back : (v i : ℕ) → v < n → i < length (rowBy n S L O r v)
@@ -113,14 +113,14 @@ module _ {n : ℕ} {S L O : List ℕ} (block : Block n 1 S L ones) (order : Orde
       record {
         fits = λ v h. omega (arith, count-at n (rowBy n S L O r) v h, fit v h);
         ranks =
-          λ v i h l.
-          let k : i < length (rowBy n S L O r v) = omega (arith, count-at n (rowBy n S L O r) v h) in
-          omega (arith, rank-back v i h k, plain-rising n S L O r v .below i k);
+            λ v i h l.
+            let k : i < length (rowBy n S L O r v) = omega (arith, count-at n (rowBy n S L O r) v h) in
+            omega (arith, rank-back v i h k, plain-rising n S L O r v .below i k);
         rising =
-          λ v i j h less l.
-          let k : j < length (rowBy n S L O r v) = omega (arith, count-at n (rowBy n S L O r) v h) in
-          let m : i < length (rowBy n S L O r v) = omega arith in
-          omega (arith, rank-back v i h m, rank-back v j h k, plain-rising n S L O r v .rise i j less k)
+            λ v i j h less l.
+            let k : j < length (rowBy n S L O r v) = omega (arith, count-at n (rowBy n S L O r) v h) in
+            let m : i < length (rowBy n S L O r v) = omega arith in
+            omega (arith, rank-back v i h m, rank-back v j h k, plain-rising n S L O r v .rise i j less k);
       }
 
   module _ (less : r < n) where

@@ -49,7 +49,7 @@ run-begins {n} {w} {k} {S} {L} {O} i =
       met-zero = i .met-zero;
       queue-zero = i .queue-zero;
       noted-far = i .noted-far;
-      none = λ j h. absurd (omega arith)
+      none = λ j h. absurd (omega arith);
     }
 
 pub run-ends : {n w k : ℕ} {S L O labels counts met queue noted : List ℕ} {r : ℕ} → k ≤ r
@@ -62,7 +62,7 @@ run-ends {n} {w} {k} {S} {L} {O} {r = r} h s =
       rows = s .rows ∙ ap (λ (j : ℕ). labelsOf n w (rowBy n S L O j)) at;
       numbers = s .numbers ∙ ap (λ (j : ℕ). countsOf n (rowBy n S L O j)) at;
       met-zero = s .met-zero;
-      queue-zero = s .queue-zero
+      queue-zero = s .queue-zero;
     }
 
 -- the rooms keep their lengths
@@ -73,14 +73,15 @@ pub run-lengths : {n w k r : ℕ} {S L O labels₀ counts₀ met₀ queue₀ not
     × (length met ≡ length met₀)
     × (length queue ≡ length queue₀)
     × (length noted ≡ length noted₀)
-run-lengths {n} {w} {r = r} {S} {L} {O} i s =
-    (ap length (s .rows)
-    ∙ length-labels n w (rowBy n S L O r)
-    ∙ sym (ap length (i .labels-zero) ∙ length-replicate (n * w) 0),
-    ap length (s .numbers) ∙ length-counts n (rowBy n S L O r) ∙ sym (ap length (i .counts-zero) ∙ length-replicate n 0),
-    ap length (s .met-zero ∙ sym (i .met-zero)),
-    ap length (s .queue-zero ∙ sym (i .queue-zero)),
-    ap length (s .noted-far ∙ sym (i .noted-far)))
+run-lengths {n} {w} {r = r} {S} {L} {O} i s = (
+  ap length (s .rows)
+      ∙ length-labels n w (rowBy n S L O r)
+      ∙ sym (ap length (i .labels-zero) ∙ length-replicate (n * w) 0),
+  ap length (s .numbers) ∙ length-counts n (rowBy n S L O r) ∙ sym (ap length (i .counts-zero) ∙ length-replicate n 0),
+  ap length (s .met-zero ∙ sym (i .met-zero)),
+  ap length (s .queue-zero ∙ sym (i .queue-zero)),
+  ap length (s .noted-far ∙ sym (i .noted-far)),
+)
 
 module _ {n w k : ℕ} {S L O labels₀ counts₀ met₀ queue₀ noted₀ labels counts met queue noted : List ℕ} (r : ℕ)
     (i : RunIn n w k S L O labels₀ counts₀ met₀ queue₀ noted₀) (s : Running n w k S L O r labels counts met queue noted)
@@ -100,21 +101,21 @@ module _ {n w k : ℕ} {S L O labels₀ counts₀ met₀ queue₀ noted₀ label
       rw (run-long, s .rows, s .numbers)
       (record {
         ready =
-          record {
-            frames = i .frames;
-            wide = i .wide;
-            width = i .width;
-            block = i .block;
-            places = i .places;
-            labels-long = length-labels n w (rowBy n S L O r);
-            counts-long = length-counts n (rowBy n S L O r);
-            rows = sound-back (i .block) (i .order) w r (i .frames) (i .wide) (omega (arith, below)) fit;
-            hub-in = i .order .inside r below;
-            met-zero = s .met-zero;
-            queue-zero = s .queue-zero;
-            noted-far = s .noted-far
-          };
-        laid = laid-back (i .block) (i .order) w r (i .frames) (i .wide) (omega (arith, below)) fit
+            record {
+              frames = i .frames;
+              wide = i .wide;
+              width = i .width;
+              block = i .block;
+              places = i .places;
+              labels-long = length-labels n w (rowBy n S L O r);
+              counts-long = length-counts n (rowBy n S L O r);
+              rows = sound-back (i .block) (i .order) w r (i .frames) (i .wide) (omega (arith, below)) fit;
+              hub-in = i .order .inside r below;
+              met-zero = s .met-zero;
+              queue-zero = s .queue-zero;
+              noted-far = s .noted-far;
+            };
+        laid = laid-back (i .block) (i .order) w r (i .frames) (i .wide) (omega (arith, below)) fit;
       })
 
   module _ (walked : Walked) (labels′ counts′ met′ queue′ noted′ : List ℕ)
@@ -140,24 +141,24 @@ module _ {n w k : ℕ} {S L O labels₀ counts₀ met₀ queue₀ noted₀ label
     next e f =
         let made : walked ≡ Made = is-made e f in
         let after : (v : ℕ) → v < n
-            → walkedRows n w S L (labelsOf n w (rowBy n S L O r)) (countsOf n (rowBy n S L O r)) r (hubOf O r) v ≡ rowBy n S L O (r + 1) v =
+        → walkedRows n w S L (labelsOf n w (rowBy n S L O r)) (countsOf n (rowBy n S L O r)) r (hubOf O r) v ≡ rowBy n S L O (r + 1) v =
         λ v l.
         rows-next (i .block) (i .order) w r (i .frames) (i .wide) (omega (arith, below)) fit below v l
         ∙ ap (λ (j : ℕ). rowBy n S L O j v) (sym (add-one r)) in
         record {
           upto = omega arith;
           rows =
-            out .rows ∙ made-is made _ _
-            ∙ labels-ext n w _ (rowBy n S L O (r + 1)) (i .wide) after;
+              out .rows ∙ made-is made _ _
+              ∙ labels-ext n w _ (rowBy n S L O (r + 1)) (i .wide) after;
           numbers = out .numbers ∙ made-is made _ _ ∙ counts-ext n _ (rowBy n S L O (r + 1)) after;
           met-zero = out .met-zero;
           queue-zero = out .queue-zero;
           noted-far = notes ∙ s .noted-far;
           none =
-            λ j l.
-            by-cases (ℕ-discrete j r)
-            (λ (q : j ≡ r). rw q (neither (fullAt n w S L O r) (farAt n S L O r) e f))
-            (λ q. s .none j (omega arith))
+              λ j l.
+              by-cases (ℕ-discrete j r)
+              (λ (q : j ≡ r). rw q (neither (fullAt n w S L O r) (farAt n S L O r) e f))
+              (λ q. s .none j (omega arith));
         }
 
     -- a walk that is not made ends it at this rank, with rows and counts as they were
@@ -170,7 +171,7 @@ module _ {n w k : ℕ} {S L O labels₀ counts₀ met₀ queue₀ noted₀ label
           rows = out .rows ∙ still _ _ ∙ ap (λ (j : ℕ). labelsOf n w (rowBy n S L O j)) at;
           numbers = out .numbers ∙ still _ _ ∙ ap (λ (j : ℕ). countsOf n (rowBy n S L O j)) at;
           met-zero = out .met-zero;
-          queue-zero = out .queue-zero
+          queue-zero = out .queue-zero;
         }
 
     pub run-next : verdictOf walked r ≡ Fine → Running n w k S L O (r + 1) labels′ counts′ met′ queue′ noted′

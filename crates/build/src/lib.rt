@@ -2,7 +2,6 @@
 use refusal::Refusal;
 use refusal::Verdict;
 use rows::entry::Entry;
-
 ghost use mathlib.Core.Path.{_≡_};
 ghost use Rattle.build.specs.Build.{outcome, buildOf};
 
@@ -37,10 +36,21 @@ pub fn build(
     ensures { λ r. ⌜
         outcome r (now (labels .exit)) (now (counts .exit)) (now (met .exit)) (now (queue .exit))
         ≡ buildOf n w k (now (starts .entry)) (now (places .entry)) (now (order .entry)) (now (labels .entry))
-            (now (counts .entry)) (now (met .entry)) (now (queue .entry))
-    ⌝ }
+        (now (counts .entry)) (now (met .entry)) (now (queue .entry))
+        ⌝ }
 {
-    let tested = tests::tests(n, w, k, starts, places, order, labels.len(), counts.len(), met.len(), queue.len());
+    let tested = tests::tests(
+        n,
+        w,
+        k,
+        starts,
+        places,
+        order,
+        labels.len(),
+        counts.len(),
+        met.len(),
+        queue.len(),
+    );
     if let Verdict::Refused(refused) = tested {
         return Built::Refused(refused);
     }

@@ -1,12 +1,11 @@
 // The build once its tests are passed: the rooms cleared, the walks, and the entries counted.
-use refusal::Verdict;
-use rows::entry::Entry;
 use crate::Built;
 use crate::rooms::clear;
 use crate::rooms::clear_labels;
 use crate::rooms::total;
 use crate::run::walks;
-
+use refusal::Verdict;
+use rows::entry::Entry;
 ghost use mathlib.Core.Path.{_≡_};
 ghost use lib.ListN.{length};
 ghost use Rattle.theory.specs.Plain.{rowBy};
@@ -26,13 +25,13 @@ pub fn make(
 ) -> Built
     requires { ⌜
         MakeIn (length (now counts)) w k (now starts) (now places) (now order) (now labels) (now counts) (now met) (now queue)
-    ⌝ }
+        ⌝ }
     ensures { λ r. ⌜
         outcome r (now (labels .exit)) (now (counts .exit)) (now (met .exit)) (now (queue .exit))
         ≡ afterWalks (length (now (counts .entry))) w
-            (rowBy (length (now (counts .entry))) (now (starts .entry)) (now (places .entry)) (now (order .entry)) k)
-            (walksTest (length (now (counts .entry))) w k (now (starts .entry)) (now (places .entry)) (now (order .entry)))
-    ⌝ }
+        (rowBy (length (now (counts .entry))) (now (starts .entry)) (now (places .entry)) (now (order .entry)) k)
+        (walksTest (length (now (counts .entry))) w k (now (starts .entry)) (now (places .entry)) (now (order .entry)))
+        ⌝ }
 {
     clear_labels(labels);
     clear(counts);

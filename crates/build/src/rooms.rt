@@ -1,6 +1,5 @@
 // Whole rooms: cleared once per build, and the counts summed.
 use rows::entry::Entry;
-
 ghost use mathlib.Core.Path.{_≡_};
 ghost use Prim.Native.Nat.{_≤_};
 ghost use lib.ListN.{length, replicate};

@@ -1,10 +1,9 @@
 // The walks of the first k hubs in rank order, over cleared rooms, up to the first that is refused.
+use crate::settle::Walked;
+use crate::walk::walk;
 use refusal::Refusal;
 use refusal::Verdict;
 use rows::entry::Entry;
-use crate::settle::Walked;
-use crate::walk::walk;
-
 ghost use mathlib.Core.Path.{_≡_};
 ghost use lib.ListN.{length, replicate};
 ghost use Rattle.build.specs.Build.{RunIn, RunOut};
@@ -42,17 +41,28 @@ pub fn run(
 ) -> Verdict
     requires { ⌜
         RunIn (length (now counts)) w k (now starts) (now places) (now order) (now labels) (now counts) (now met) (now queue)
-            (now noted)
-    ⌝ }
+        (now noted)
+        ⌝ }
     ensures { λ r. ⌜
         RunOut (length (now (counts .entry))) w k (now (starts .entry)) (now (places .entry)) (now (order .entry)) r
-            (now (labels .exit)) (now (counts .exit)) (now (met .exit)) (now (queue .exit))
-    ⌝ }
+        (now (labels .exit)) (now (counts .exit)) (now (met .exit)) (now (queue .exit))
+        ⌝ }
 {
     let mut rank = 0;
     while rank < k {
         let hub = order[rank] as usize;
-        let walked = walk(w, rank, starts, places, labels, counts, hub, met, queue, noted);
+        let walked = walk(
+            w,
+            rank,
+            starts,
+            places,
+            labels,
+            counts,
+            hub,
+            met,
+            queue,
+            noted,
+        );
         let verdict = verdict_of(walked, rank);
         let Verdict::Fine = verdict else {
             return verdict;
@@ -76,13 +86,24 @@ pub fn walks(
 ) -> Verdict
     requires { ⌜
         RunIn (length (now counts)) w k (now starts) (now places) (now order) (now labels) (now counts) (now met) (now queue)
-            (replicate 4096 65536)
-    ⌝ }
+        (replicate 4096 65536)
+        ⌝ }
     ensures { λ r. ⌜
         RunOut (length (now (counts .entry))) w k (now (starts .entry)) (now (places .entry)) (now (order .entry)) r
-            (now (labels .exit)) (now (counts .exit)) (now (met .exit)) (now (queue .exit))
-    ⌝ }
+        (now (labels .exit)) (now (counts .exit)) (now (met .exit)) (now (queue .exit))
+        ⌝ }
 {
     let mut noted = [65536u32; 4096];
-    run(w, k, starts, places, order, labels, counts, met, queue, &mut noted)
+    run(
+        w,
+        k,
+        starts,
+        places,
+        order,
+        labels,
+        counts,
+        met,
+        queue,
+        &mut noted,
+    )
 }

@@ -2,7 +2,6 @@
 // tests of the links and of the order.
 use refusal::Refusal;
 use refusal::Verdict;
-
 ghost use mathlib.Core.Path.{_≡_};
 ghost use Prim.Native.Nat.{_≤_};
 ghost use lib.ListN.{length};
@@ -80,7 +79,7 @@ pub fn tests(
     ensures { λ r. ⌜
         r
         ≡ buildTests n w k (now (starts .entry)) (now (places .entry)) (now (order .entry)) labels counts met queue
-    ⌝ }
+        ⌝ }
 {
     let sizes = sizes_fit(n, w, k, places.len());
     if !sizes {

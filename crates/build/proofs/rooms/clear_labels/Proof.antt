@@ -31,11 +31,12 @@ loop-less : tie.Need-loop-less Inv-loop μ-loop
 loop-less c = omega (arith, c .before .loop .inv .1)
 
 loop-again : tie.Need-loop-again Inv-loop μ-loop
-loop-again c =
-    (omega (arith, c .before .loop .inv .1),
-    length-set (c .before .loop .labels) (c .before .loop .at) 0 ∙ c .before .loop .inv .1,
-    ap (λ (l : List ℕ). set l (c .before .loop .at) 0) (c .before .loop .inv .2)
-    ∙ fill-more (c .before .loop .at) 0 (c .before .before .args .labels .now) (omega (arith, c .before .loop .inv .1)))
+loop-again c = (
+  omega (arith, c .before .loop .inv .1),
+  length-set (c .before .loop .labels) (c .before .loop .at) 0 ∙ c .before .loop .inv .1,
+  ap (λ (l : List ℕ). set l (c .before .loop .at) 0) (c .before .loop .inv .2)
+      ∙ fill-more (c .before .loop .at) 0 (c .before .before .args .labels .now) (omega (arith, c .before .loop .inv .1)),
+)
 
 same-length : tie.Need-same-length Inv-loop μ-loop
 same-length c = c .before .loop .inv .1

@@ -48,10 +48,11 @@ loop-less : tie.Need-loop-less Inv-loop μ-loop
 loop-less c = omega arith
 
 loop-again : tie.Need-loop-again Inv-loop μ-loop
-loop-again c =
-    (omega arith,
-    omega (arith, one-more (c .before .before .before .args .counts .now) (c .before .before .loop .v) (c .before .loop-test .taken), c .before .before .loop .inv .1),
-    omega (arith, c .shared-slice-known .given (c .before .before .loop .v), c .before .before .loop .inv .2))
+loop-again c = (
+  omega arith,
+  omega (arith, one-more (c .before .before .before .args .counts .now) (c .before .before .loop .v) (c .before .loop-test .taken), c .before .before .loop .inv .1),
+  omega (arith, c .shared-slice-known .given (c .before .before .loop .v), c .before .before .loop .inv .2),
+)
 
 returns : tie.Need-returns Inv-loop μ-loop
 returns c =
