@@ -89,14 +89,14 @@ at-found B (e ∷ es) r h =
     absurd (omega (arith, other))))
 
 -- the notes say what the hub's row has for a rank, as far as it matters below B
-pub Notes : ℕ → ℕ → Row → List ℕ → Type 0
+abbrev pub Notes : ℕ → ℕ → Row → List ℕ → Type 0
 Notes B n own noted = (r : ℕ) → r < n → at B own r ≡ min B (getD noted r 0)
 
 -- the drop test is the answer's comparison with the level
 pub within-answer : (B n : ℕ) (own : Row) (noted row : List ℕ) (level : ℕ) → Notes B n own noted
     → ((i : ℕ) → i < length row → rankOf (getD row i 0) < n) → level < B
     → within noted row level ≡ leb (answer B n own (decode row)) level
-unfolding within answer Notes
+unfolding within answer
 within-answer B n own noted row level notes low small =
     let sums : ℕ → ℕ = λ r. at B own r + at B (decode row) r in
     same-truth _ _

@@ -1,2 +1,11 @@
+pub mod BfsQueue
+pub mod BfsGrown
+pub mod BfsStep
+pub mod BfsStart
+pub mod BfsEnd
+pub mod BfsWalk
 pub mod DropNotes
 pub mod DropWithin
+pub mod DropRow
+pub mod RoomLaws
+pub mod RoomMarks

@@ -77,6 +77,24 @@ within noted row level = some (λ i. leb (joinsOf (getD row i 0) + getD noted (r
 unfoldable pub drops : ℕ → List ℕ → List ℕ → List ℕ → ℕ → ℕ → Bool
 drops w labels counts noted u level = within noted (rowAt w labels counts u) level
 
+-- what the drop test of u needs: its row, and a note for every rank
+pub record DropIn (n w : ℕ) (labels counts noted : List ℕ) (u : ℕ) : Type 0 where
+  pub frames : n ≤ 4096
+  pub width : w ≤ 256
+  pub labels-long : length labels ≡ n * w
+  pub counts-long : length counts ≡ n
+  pub rows : SoundRows n w labels counts
+  pub notes : n ≤ length noted
+  pub frame : u < n
+
+-- what meeting the neighbours of u needs: a block, and room for frame numbers
+pub record MeetIn (S L : List ℕ) (u x : ℕ) (met queue : List ℕ) (t : ℕ) : Type 0 where
+  pub block : Block (length met) 1 S L ones
+  pub frames : length met ≤ 4096
+  pub frame : u < length met
+  pub some : 0 < x
+  pub line : Queue met queue t
+
 -- The frames in the list of u from its start up to place `upto` are met: those not met before at x, behind the old queue.
 pub record Grown (S L : List ℕ) (u upto x : ℕ) (met queue : List ℕ) (t : ℕ) (met' queue' : List ℕ) (t' : ℕ) : Type 0 where
   pub line : Queue met' queue' t'
@@ -125,3 +143,22 @@ pub record Bfs (n : ℕ) (S L : List ℕ) (drop : ℕ → ℕ → Bool) (hub : �
   pub plain : (j : ℕ) → h ≤ j → j < t → getD met (getD queue j 0) 0 < 65536
   pub reason : (j : ℕ) → j < t → (getD queue j 0 ≡ hub) ⊎ Parent S L met queue h (getD queue j 0)
   pub done : (i : ℕ) → i < h → Kept S L drop met (getD queue i 0) ⊎ Dropped drop met (getD queue i 0)
+
+-- what a walk needs: a block, and the drop test of every frame
+pub record WalkIn (n w : ℕ) (S L labels counts noted : List ℕ) : Type 0 where
+  pub frames : n ≤ 4096
+  pub block : Block n 1 S L ones
+  pub test : (u : ℕ) → u < n → DropIn n w labels counts noted u
+
+-- a walk under way, with a frame to come
+pub record StepIn (n w : ℕ) (S L labels counts noted met queue : List ℕ) (h t : ℕ) : Type 0 where
+  pub given : WalkIn n w S L labels counts noted
+  pub so-far : Bfs n S L (drops w labels counts noted) (getD queue 0 0) met queue h t
+  pub more : h < t
+
+-- a walk to begin
+pub record SpreadIn (n w : ℕ) (S L labels counts noted : List ℕ) (hub : ℕ) (met queue : List ℕ) : Type 0 where
+  pub given : WalkIn n w S L labels counts noted
+  pub hub-in : hub < n
+  pub met-zero : met ≡ replicate n 0
+  pub queue-zero : queue ≡ replicate n 0

@@ -1,3 +1,5 @@
 pub mod Bits
 pub mod Layout
+pub mod Pen
 pub mod Reader
+pub mod Steps

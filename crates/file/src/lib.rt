@@ -1,6 +1,12 @@
 // The index file: bit-packed fields, most significant first.
+mod put;
+mod widths;
+
 use refusal::Refusal;
 use refusal::Verdict;
+
+mod check;
+mod get;
 
 // What opening a file gives: an index of n frames and stop k, or a refusal.
 pub enum Opened {

@@ -2,7 +2,7 @@
 -- exactly what the theory asks of a block.
 use Prim.Native.Nat.{ℕ, zero, suc, _+_, _-_, _≤_, _<_}
 use mathlib.Core.Path.{_≡_, refl, sym, ap, _∙_}
-use mathlib.Core.Bool.{Bool, true, false, not, _||_, _&&_}
+use mathlib.Core.Bool.{Bool, true, false, not, _||_, _&&_, and-false, or-true}
 use mathlib.Core.List.{List}
 use native.Mathlib.Omega.{arith}
 use native.Mathlib.Numerals.{add-one}
@@ -11,7 +11,7 @@ use lib.ListN.{length, getD}
 use lib.Dec.{leb, ltb, eqb}
 use borrow.Author.Tests.{le-leb, lt-leb, lt-ltb, eq-eqb, ne-eqb, leb-false, ltb-false, eqb-true, eqb-false}
 use Rattle.basics.specs.Places.{first, some}
-use Rattle.basics.proofs.Laws.{by-cases, both, both-true, either-false, of-not-true, of-not-false, first-before, some-found, some-not}
+use Rattle.basics.proofs.Laws.{by-cases, both, both-true, either-false, either-left, either-right, neither, not-of-true, not-of-false, of-not-true, of-not-false, first-before, some-one, some-found, some-not, some-first, none-first}
 use Rattle.refusal.specs.Numbers.{SIZE, LENGTH, STARTS, LINKS}
 use Rattle.refusal.specs.Tests.{test, _then_, refusal}
 use Rattle.refusal.specs.declared.Verdict.{Verdict}
@@ -19,7 +19,7 @@ use Rattle.refusal.specs.declared.Verdict.the-variants.{Fine, Refused}
 use Rattle.refusal.proofs.Laws.{test-fine, test-refused, test-held, after-fine, after-refused}
 use Rattle.theory.specs.Links.{Block, Link}
 use Rattle.theory.specs.Plain.{ones}
-use Rattle.links.specs.Links.{framesFit, placesFit, startsRight, degree, holds, faultyLink, faultyList, startsTest, listsTest, checkLinks, Starts}
+use Rattle.links.specs.Links.{framesFit, placesFit, falls, startsRight, degree, holds, notAbove, faultyLink, faultyList, startsTest, listsTest, checkLinks, Starts}
 
 -- ---- sizes and lengths
 
@@ -43,34 +43,94 @@ pub many-places : (l : ℕ) → 65536 < l → placesFit l ≡ false
 unfolding placesFit
 many-places l many = lt-leb l 65536 many
 
+-- the SIZE test of n and the neighbour places
+pub size-few : (n l : ℕ) → n < 1 → framesFit n && placesFit l ≡ false
+size-few n l few = rw (no-frames n few) refl
+
+pub size-many : (n l : ℕ) → 4096 < n → framesFit n && placesFit l ≡ false
+size-many n l many = rw (many-frames n many) refl
+
+pub size-places : (n l : ℕ) → 65536 < l → framesFit n && placesFit l ≡ false
+size-places n l many = rw (many-places l many, and-false) refl
+
+pub size-fits : (n l : ℕ) → 1 ≤ n → n ≤ 4096 → l ≤ 65536 → framesFit n && placesFit l ≡ true
+size-fits n l one most room = both _ _ (frames-fit n one most) (places-fit l room)
+
+pub links-size : (n : ℕ) (S L : List ℕ) → framesFit n && placesFit (length L) ≡ false
+    → checkLinks n S L ≡ Refused (refusal SIZE 0)
+unfolding checkLinks
+links-size n S L e = after-refused _ (test-refused _ _ e)
+
+pub links-length : (n : ℕ) (S L : List ℕ) → 1 ≤ n → n ≤ 4096 → length L ≤ 65536 → (length S ≡ n + 1 → ⊥)
+    → checkLinks n S L ≡ Refused (refusal LENGTH 0)
+unfolding checkLinks
+links-length n S L one most room other =
+    after-fine _ (test-fine _ _ (size-fits n (length L) one most room))
+    ∙ after-refused _ (test-refused _ _ (ne-eqb (length S) (n + 1) other))
+
 -- where sizes and lengths fit, check links is tests 3 and 4
 pub links-alone : (n : ℕ) (S L : List ℕ) → 1 ≤ n → n ≤ 4096 → length L ≤ 65536 → length S ≡ n + 1
     → checkLinks n S L ≡ (startsTest n S L then listsTest n S L)
 unfolding checkLinks
 links-alone n S L one most room long =
-    after-fine _ (test-fine _ _ (both _ _ (frames-fit n one most) (places-fit (length L) room)))
+    after-fine _ (test-fine _ _ (size-fits n (length L) one most room))
     ∙ after-fine _ (test-fine _ _ (eq-eqb (length S) (n + 1) long))
 
 -- ---- start positions
 
-pub starts-sound : (n : ℕ) (S L : List ℕ) → startsTest n S L ≡ Fine → n ≤ 4096 → length L ≤ 65536 → length S ≡ n + 1
+pub starts-front : (n : ℕ) (S L : List ℕ) → (getD S 0 0 ≡ 0 → ⊥) → startsRight n S L ≡ false
+unfolding startsRight
+starts-front n S L other = rw (ne-eqb (getD S 0 0) 0 other) refl
+
+pub starts-fall : (n : ℕ) (S L : List ℕ) → some (falls S) 0 n ≡ true → startsRight n S L ≡ false
+unfolding startsRight
+starts-fall n S L e = rw (e, and-false) refl
+
+pub starts-last : (n : ℕ) (S L : List ℕ) → getD S 0 0 ≡ 0 → some (falls S) 0 n ≡ false
+    → startsRight n S L ≡ eqb (getD S n 0) (length L)
+unfolding startsRight
+starts-last n S L front e = rw (eq-eqb (getD S 0 0) 0 front, e) refl
+
+-- ---- tests 3 and 4 in a row
+
+pub right-starts : (n : ℕ) (S L : List ℕ) → startsTest n S L ≡ Fine → startsRight n S L ≡ true
+unfolding startsTest
+right-starts n S L fine = test-held _ _ _ fine
+
+pub tests-starts : (n : ℕ) (S L : List ℕ) → startsRight n S L ≡ false
+    → (startsTest n S L then listsTest n S L) ≡ Refused (refusal STARTS 0)
+unfolding startsTest
+tests-starts n S L e = after-refused _ (test-refused _ _ e)
+
+pub tests-lists : (n : ℕ) (S L : List ℕ) (v : ℕ) → startsRight n S L ≡ true → v ≡ first (faultyList n S L) 0 n
+    → (v ≡ n → ⊥) → (startsTest n S L then listsTest n S L) ≡ Refused (refusal LINKS v)
+unfolding startsTest listsTest
+tests-lists n S L v e here other =
+    after-fine _ (test-fine _ _ e) ∙ rw (← here) (test-refused LINKS v (ne-eqb v n other))
+
+pub tests-fine : (n : ℕ) (S L : List ℕ) (v : ℕ) → startsRight n S L ≡ true → v ≡ first (faultyList n S L) 0 n
+    → v ≡ n → (startsTest n S L then listsTest n S L) ≡ Fine
+unfolding startsTest listsTest
+tests-fine n S L v e here whole =
+    after-fine _ (test-fine _ _ e) ∙ rw (← here) (test-fine LINKS v (eq-eqb v n whole))
+
+-- ---- start positions that are kept
+
+-- start positions that keep their rule, at sizes and lengths that fit
+pub starts-kept : (n : ℕ) (S L : List ℕ) → startsRight n S L ≡ true → n ≤ 4096 → length L ≤ 65536 → length S ≡ n + 1
     → Starts n S L
-unfolding startsTest startsRight
-starts-sound n S L fine most room long =
-    let right : startsRight n S L ≡ true = test-held _ _ _ fine in
-    let parts : (eqb (getD S 0 0) 0 && not (some (λ v. ltb (getD S (v + 1) 0) (getD S v 0)) 0 n) ≡ true) × (eqb (getD S n 0) (length L) ≡ true) =
-    both-true _ _ right in
-    let front : (eqb (getD S 0 0) 0 ≡ true) × (not (some (λ v. ltb (getD S (v + 1) 0) (getD S v 0)) 0 n) ≡ true) =
-    both-true _ _ (parts .0) in
+unfolding startsRight
+starts-kept n S L right most room long =
+    let (begin, last) =
+    both-true (eqb (getD S 0 0) 0 && not (some (falls S) 0 n)) (eqb (getD S n 0) (length L)) right in
+    let (front, rise) = both-true (eqb (getD S 0 0) 0) (not (some (falls S) 0 n)) begin in
     record {
       frames = most;
       places = room;
       long = long;
-      front = eqb-true _ _ (front .0);
-      rise = λ v h.
-          ltb-false _ _
-          (some-not (λ u. ltb (getD S (u + 1) 0) (getD S u 0)) 0 n v (of-not-true _ (front .1)) (omega arith) (omega arith));
-      last = eqb-true _ _ (parts .1);
+      front = eqb-true _ _ front;
+      rise = λ v h. ltb-false _ _ (some-not (falls S) 0 n v (of-not-true _ rise) (omega arith) (omega arith));
+      last = eqb-true _ _ last;
     }
 
 -- start positions never fall
@@ -87,7 +147,57 @@ starts-rise S s u (suc v) h k =
 pub starts-within : {n : ℕ} (S : List ℕ) {L : List ℕ} → Starts n S L → (v : ℕ) → v ≤ n → getD S v 0 ≤ length L
 starts-within {n} S s v h = omega (arith, s .last, starts-rise S s v n h (omega arith))
 
--- ---- a sound link
+pub list-within : {n : ℕ} (S : List ℕ) {L : List ℕ} → Starts n S L → (v : ℕ) → v < n
+    → (getD S v 0 ≤ getD S (v + 1) 0) × (getD S (v + 1) 0 ≤ length L) × (length L ≤ 65536)
+list-within S s v h = (s .rise v h, starts-within S s (v + 1) (omega arith), s .places)
+
+-- ---- the mirror
+
+-- a place of w's list that holds v is enough
+pub holds-at : (S L : List ℕ) (w v i : ℕ) → getD S w 0 ≤ i → i < getD S (w + 1) 0 → getD L i 0 ≡ v → holds S L w v ≡ true
+unfolding holds degree
+holds-at S L w v i low high e =
+    some-one (λ j. eqb (getD L j 0) v) (getD S w 0) (degree S w) i low (omega arith) (eq-eqb _ _ e)
+
+-- a search of w's list that ends before its end has found v
+pub holds-found : (S L : List ℕ) (w v i : ℕ) → getD S w 0 ≤ getD S (w + 1) 0
+    → i ≡ first (λ j. eqb (getD L j 0) v) (getD S w 0) (getD S (w + 1) 0 - getD S w 0) → i < getD S (w + 1) 0
+    → holds S L w v ≡ true
+unfolding holds degree
+holds-found S L w v i rise e h = some-first (λ j. eqb (getD L j 0) v) (getD S w 0) (degree S w) (omega arith)
+
+pub holds-not : (S L : List ℕ) (w v i : ℕ) → getD S w 0 ≤ getD S (w + 1) 0
+    → i ≡ first (λ j. eqb (getD L j 0) v) (getD S w 0) (getD S (w + 1) 0 - getD S w 0) → getD S (w + 1) 0 ≤ i
+    → holds S L w v ≡ false
+unfolding holds degree
+holds-not S L w v i rise e h = none-first (λ j. eqb (getD L j 0) v) (getD S w 0) (degree S w) (omega arith)
+
+-- ---- a faulty link, and a sound one
+
+module _ (n : ℕ) (S L : List ℕ) (v i : ℕ) where
+  pub link-out : n ≤ getD L i 0 → faultyLink n S L v i ≡ true
+  unfolding faultyLink
+  link-out h = rw (le-leb n (getD L i 0) h) refl
+
+  pub link-self : getD L i 0 ≡ v → faultyLink n S L v i ≡ true
+  unfolding faultyLink
+  link-self e = rw (eq-eqb (getD L i 0) v e, or-true) refl
+
+  pub link-falls : notAbove S L v i ≡ true → faultyLink n S L v i ≡ true
+  unfolding faultyLink
+  link-falls e = either-left _ _ (either-right (leb n (getD L i 0) || eqb (getD L i 0) v) _ e)
+
+  pub link-alone : holds S L (getD L i 0) v ≡ false → faultyLink n S L v i ≡ true
+  unfolding faultyLink
+  link-alone e = either-right (leb n (getD L i 0) || eqb (getD L i 0) v || notAbove S L v i) _ (not-of-false e)
+
+  pub link-fine : getD L i 0 < n → (getD L i 0 ≡ v → ⊥) → notAbove S L v i ≡ false → holds S L (getD L i 0) v ≡ true
+      → faultyLink n S L v i ≡ false
+  unfolding faultyLink
+  link-fine inside apart above mirror =
+      neither _ _
+      (neither _ _ (neither _ _ (lt-leb n (getD L i 0) inside) (ne-eqb (getD L i 0) v apart)) above)
+      (not-of-true mirror)
 
 -- what a link that is not faulty keeps
 pub record Sound (n : ℕ) (S L : List ℕ) (v i : ℕ) : Type 0 where
@@ -131,7 +241,7 @@ holds-link S L w v e =
 pub links-sound : (n : ℕ) (S L : List ℕ) → startsTest n S L ≡ Fine → listsTest n S L ≡ Fine → 1 ≤ n → n ≤ 4096
     → length L ≤ 65536 → length S ≡ n + 1 → Block n 1 S L ones
 links-sound n S L starts lists one most room long =
-    let s : Starts n S L = starts-sound n S L starts most room long in
+    let s : Starts n S L = starts-kept n S L (right-starts n S L starts) most room long in
     let at : (v i : ℕ) → v < n → getD S v 0 ≤ i → i < getD S (v + 1) 0 → Sound n S L v i = lists-sound n S L lists in
     record {
       some = one;

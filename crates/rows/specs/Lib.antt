@@ -1,2 +1,4 @@
 pub mod Entry
 pub mod Rooms
+pub mod Meetings
+pub mod Pair

@@ -1,7 +1,10 @@
 // Rows and the questions asked of them: the entry's layout, sound rows, the pair question, the row check and lookup, and
 // the spread.
+mod asked;
 pub mod check;
 pub mod entry;
+mod merge;
+pub mod pair;
 pub mod part;
 mod rooms;
 mod sound;

@@ -2,20 +2,19 @@
 -- the stop. A hub that one of the two rows lacks is covered by a hub of lower rank, at a sum no greater: so the lowest
 -- rank of the least sum is in both rows.
 use Prim.Native.Nat.{ℕ, zero, suc, _+_, _≤_, _<_, min}
-use mathlib.Core.Path.{_≡_, refl, sym, ap, subst, _∙_}
+use mathlib.Core.Path.{_≡_, refl, sym, ap, subst}
 use mathlib.Core.Logic.{_⊎_, inl, inr}
-use mathlib.Core.Bool.{Bool, true, false, cond}
-use mathlib.Core.List.{List, [], _∷_, _++_, List·Memᴰ, List·Memᴰ·head, List·Memᴰ·tail, List·Memᴰ·cases-cons, List·Memᴰ·not-nil}
+use mathlib.Core.Bool.{cond}
+use mathlib.Core.List.{[], _∷_, List·Memᴰ·head, List·Memᴰ·tail, List·Memᴰ·cases-cons, List·Memᴰ·not-nil}
 use native.Mathlib.Decide.{ℕ-discrete}
 use native.Mathlib.Omega.{arith}
-use lib.Dec.{eqb, ltb}
+use lib.Dec.{eqb}
 use borrow.Author.Tests.{eq-eqb, ne-eqb, lt-ltb, le-ltb}
-use Rattle.basics.specs.Places.{least}
 use Rattle.basics.proofs.Laws.{by-cases, cases, lt-or-ge, cond-true, cond-false, least-most, least-le, least-ge, least-found}
-use Rattle.theory.specs.Chains.{Count, joins, none, Least}
+use Rattle.theory.specs.Chains.{joins, none, Least}
 use Rattle.theory.specs.Distance.{said}
-use Rattle.theory.specs.Rows.{Row, Rule, Metric, at, answer, hubs, ruleRow}
-use Rattle.theory.proofs.Rule.{In, rule-lt, in-row}
+use Rattle.theory.specs.Rows.{Row, In, Shared, Metric, at, answer, hubs, ruleRow}
+use Rattle.theory.proofs.Rule.{rule-lt, in-row}
 
 -- ---- what a row has for a rank
 
@@ -60,15 +59,6 @@ answer-le B n x y r h = least-le B n (λ z. at B x z + at B y z) r h
 pub answer-ge : (B n : ℕ) (x y : Row) (m : ℕ) → m ≤ B → ((r : ℕ) → r < n → m ≤ at B x r + at B y r) → m ≤ answer B n x y
 unfolding answer
 answer-ge B n x y m h all = least-ge B n _ m h all
-
--- a sum of joins over a rank in both rows
-pub record Shared (x y : Row) (m : ℕ) : Type 0 where
-  pub rank : ℕ
-  pub first : ℕ
-  pub second : ℕ
-  pub in-first : In rank first x
-  pub in-second : In rank second y
-  pub whole : m ≡ first + second
 
 -- an answer below B is a shared sum
 pub answer-found : (B n : ℕ) (x y : Row) → answer B n x y < B → Shared x y (answer B n x y)

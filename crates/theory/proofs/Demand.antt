@@ -1,19 +1,16 @@
 -- Demand 3 over any penalties: the answer is the least sum of a chain through one of the first k hubs; it is never below
 -- the distance and exceeds it by at most twice the way to any of these hubs; at k = n it is the distance; and no entry is
 -- spare. All but the last read the answer as the least sum over hubs.
-use Prim.Native.Nat.{ℕ, zero, suc, _+_, _*_, _≤_, _<_}
-use mathlib.Core.Path.{_≡_, refl, sym, ap, subst, _∙_}
-use mathlib.Core.Bool.{Bool, true, false, cond}
-use mathlib.Core.List.{List, [], _∷_, _++_}
-use native.Mathlib.Decide.{ℕ-discrete}
+use Prim.Native.Nat.{ℕ, _+_, _*_, _≤_, _<_}
+use mathlib.Core.Path.{_≡_, sym, subst}
 use native.Mathlib.Omega.{arith}
-use lib.Dec.{eqb, ltb}
-use Rattle.basics.proofs.Laws.{by-cases, lt-or-ge}
-use Rattle.theory.specs.Chains.{Chain, Through, Count, joins, none, Least}
+use Rattle.basics.specs.Places.{least}
+use Rattle.basics.proofs.Laws.{lt-or-ge, least-found}
+use Rattle.theory.specs.Chains.{Chain, Through, Least}
 use Rattle.theory.specs.Distance.{said}
-use Rattle.theory.specs.Rows.{Row, Metric, answer, hubs, ruleRow}
+use Rattle.theory.specs.Rows.{Metric, answer, hubs, ruleRow}
 use Rattle.theory.proofs.Rule.{never-less}
-use Rattle.theory.proofs.Answer.{answer-hubs, hubs-le, hubs-found, said-least}
+use Rattle.theory.proofs.Answer.{answer-cap, answer-hubs, hubs-le, hubs-found, said-least}
 
 -- d is the least sum of a chain between two frames below n, B where there is none
 pub record Shortest (K : ℕ → ℕ → ℕ → Type 0) (B n : ℕ) (d : ℕ → ℕ → ℕ) : Type 0 where
@@ -70,7 +67,7 @@ module _ {B n : ℕ} {d : ℕ → ℕ → ℕ} (h : ℕ → ℕ) (𝓜 : Metric 
   pub never-below : (k s t : ℕ) → k ≤ n → s < n → t < n → d s t ≤ answer B n (ruleRow B d h k s) (ruleRow B d h k t)
   never-below k s t l p q = omega (arith, answer-hubs h 𝓜 inside k s t l p q, never-less h 𝓜 inside k s t l p q)
 
-  -- over the distance by at most twice the way from the first frame to a used hub, so to its nearest
+  -- over the distance by at most twice the way from the first frame to a used hub
   pub near-first : (k s t r : ℕ) → k ≤ n → s < n → t < n → r < k
       → answer B n (ruleRow B d h k s) (ruleRow B d h k t) ≤ d s t + 2 * d s (h r)
   near-first k s t r l p q g =
@@ -95,6 +92,23 @@ module _ {B n : ℕ} {d : ℕ → ℕ → ℕ} (h : ℕ → ℕ) (𝓜 : Metric 
         𝓜 .via s t (h r) p q f,
         𝓜 .swap (h r) t f q,
       )
+
+  -- so to the nearest of the used hubs, from either frame
+  pub near : (k s t : ℕ) → k ≤ n → s < n → t < n
+      → (answer B n (ruleRow B d h k s) (ruleRow B d h k t) ≤ d s t + 2 * least B k (λ r. d s (h r)))
+      × (answer B n (ruleRow B d h k s) (ruleRow B d h k t) ≤ d s t + 2 * least B k (λ r. d t (h r)))
+  near k s t l p q =
+      (nearest s (λ r g. near-first k s t r l p q g), nearest t (λ r g. near-second k s t r l p q g))
+    where
+      nearest : (a : ℕ)
+          → ((r : ℕ) → r < k → answer B n (ruleRow B d h k s) (ruleRow B d h k t) ≤ d s t + 2 * d a (h r))
+          → answer B n (ruleRow B d h k s) (ruleRow B d h k t) ≤ d s t + 2 * least B k (λ r. d a (h r))
+      nearest a each =
+          lt-or-ge (least B k (λ r. d a (h r))) B
+          (λ g.
+          let (r, i, e) = least-found B k (λ r. d a (h r)) g in
+          omega (arith, each r i))
+          (λ g. omega (arith, answer-cap B n (ruleRow B d h k s) (ruleRow B d h k t)))
 
   -- a pair with a used hub gets the distance
   pub hub-count : (k r t : ℕ) → k ≤ n → r < k → t < n → answer B n (ruleRow B d h k (h r)) (ruleRow B d h k t) ≡ d (h r) t

@@ -1,8 +1,8 @@
 -- The walk level by level is a finished walk, when every penalty is 1. A level once known stays; a frame of a level is
 -- met from a kept frame one level less; and n levels suffice, since a frame of level l has frames of every lower level
 -- behind it, and there are n frames.
-use Prim.Native.Nat.{ℕ, zero, suc, _+_, _≤_, _<_}
-use mathlib.Core.Path.{_≡_, refl, sym, ap, subst, _∙_}
+use Prim.Native.Nat.{ℕ, zero, suc, _≤_, _<_}
+use mathlib.Core.Path.{_≡_, refl, ap, _∙_}
 use mathlib.Core.Logic.{_⊎_, inl, inr}
 use mathlib.Core.Bool.{Bool, true, false, cond, _&&_}
 use native.Mathlib.Decide.{ℕ-discrete}
@@ -10,7 +10,7 @@ use native.Mathlib.Omega.{arith}
 use lib.Dec.{eqb, ltb}
 use borrow.Author.Tests.{eq-eqb, ne-eqb, lt-ltb, le-ltb, ltb-true, eqb-true}
 use Rattle.basics.specs.Places.{some}
-use Rattle.basics.proofs.Laws.{bcase, by-cases, cases, lt-or-ge, not-both, both, both-true, cond-true, cond-false, some-one, some-found}
+use Rattle.basics.proofs.Laws.{bcase, by-cases, cases, lt-or-ge, both, both-true, cond-true, cond-false, some-one, some-found}
 use Rattle.theory.specs.Walk.{Met, levels}
 use Rattle.theory.proofs.Counting.{count, count-most, count-more}
 use Rattle.theory.proofs.Walk.{one-walk}

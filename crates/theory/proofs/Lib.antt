@@ -12,3 +12,5 @@ pub mod Answer
 pub mod Demand
 pub mod Spare
 pub mod WalkRule
+pub mod Penalties
+pub mod Plain

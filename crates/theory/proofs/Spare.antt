@@ -1,20 +1,18 @@
 -- Demand 3's last clause: no entry is spare. Without the entry (r, m) of v the pair (hub of r, v) loses the sum that gave
 -- its distance: the hub's row has no higher rank, rank r itself is gone, and by the rule every lower rank gives more.
-use Prim.Native.Nat.{ℕ, zero, suc, _+_, _≤_, _<_, min}
+use Prim.Native.Nat.{ℕ, suc, _+_, _≤_, _<_}
 use mathlib.Core.Path.{_≡_, refl, sym, ap, subst, _∙_}
-use mathlib.Core.Bool.{Bool, true, false, cond}
-use mathlib.Core.List.{List, [], _∷_, _++_, List·Memᴰ, List·Memᴰ·head, List·Memᴰ·tail, List·Memᴰ·append-cases, Memᴰ·append-left, Memᴰ·append-right}
+use mathlib.Core.List.{[], _∷_, _++_, List·Memᴰ·head, List·Memᴰ·tail, List·Memᴰ·append-cases, Memᴰ·append-left, Memᴰ·append-right}
 use native.Mathlib.Decide.{ℕ-discrete}
 use native.Mathlib.Omega.{arith}
-use lib.ListN.{length, getD, length-append, List·getD-append}
+use lib.ListN.{length, length-append, List·getD-append}
 use lib.Seq.{getD-append-add, getD-append-seam}
-use lib.Dec.{eqb, ltb}
 use borrow.Author.Tests.{eq-eqb, ne-eqb}
 use Rattle.basics.proofs.Laws.{by-cases, cases, lt-or-ge, cond-true, cond-false}
-use Rattle.theory.specs.Chains.{Count, joins, none}
+use Rattle.theory.specs.Chains.{joins, none}
 use Rattle.theory.specs.Distance.{said}
-use Rattle.theory.specs.Rows.{Row, Rule, Metric, at, answer, ruleRow, instead}
-use Rattle.theory.proofs.Rule.{In, Rising, rankAt, in-place, row-rising, in-row, no-higher}
+use Rattle.theory.specs.Rows.{Row, In, Rule, Metric, at, answer, ruleRow, instead}
+use Rattle.theory.proofs.Rule.{Rising, rankAt, in-place, row-rising, in-row, no-higher}
 use Rattle.theory.proofs.Answer.{at-in, at-rule, answer-ge, said-joins, said-none}
 use Rattle.theory.proofs.Demand.{hub-count}
 

@@ -2,17 +2,16 @@
 -- distance is below the answer so far, so it is all along a shortest chain, which the walk then follows. Hence a frame is
 -- kept exactly if the rule lets it in, at its distance.
 use Prim.Native.Nat.{ℕ, zero, suc, _+_, _≤_, _<_}
-use mathlib.Core.Path.{_≡_, refl, sym, ap, subst, _∙_}
+use mathlib.Core.Path.{_≡_, refl, sym, ap, _∙_}
 use mathlib.Core.Logic.{_↔_}
-use mathlib.Core.Bool.{Bool, true, false, cond}
-use mathlib.Core.List.{List, [], _∷_, _++_}
+use mathlib.Core.Bool.{Bool}
 use native.Mathlib.Decide.{ℕ-discrete}
 use native.Mathlib.Omega.{arith}
 use Rattle.basics.proofs.Laws.{by-cases, lt-or-ge}
 use Rattle.theory.specs.Rows.{Row, Metric, answer, hubs, keep, ruleRow}
 use Rattle.theory.specs.Walk.{Met, levels, walkRow, walks}
 use Rattle.theory.proofs.Rule.{keep-not}
-use Rattle.theory.proofs.Answer.{answer-hubs, hubs-cap, hubs-le, hubs-ge, hubs-found}
+use Rattle.theory.proofs.Answer.{answer-hubs, hubs-cap, hubs-le, hubs-found}
 use Rattle.theory.proofs.Levels.{oneEach, levels-met}
 
 -- what the penalties of single links owe the distance

@@ -37,3 +37,13 @@ pub record ChainOf (K : ℕ → ℕ → ℕ → Type 0) (a b links : ℕ) : Type
   pub sum : ℕ
   pub chain : Chain K a b sum
   pub long : linkCount chain ≡ links
+
+-- a chain from s to t of that many links, through one of the first k hubs
+pub record ThroughOf (K : ℕ → ℕ → ℕ → Type 0) (h : ℕ → ℕ) (k s t links : ℕ) : Type 0 where
+  pub rank : ℕ
+  pub used : rank < k
+  pub there : ℕ
+  pub on : ℕ
+  pub to-hub : ChainOf K s (h rank) there
+  pub from-hub : ChainOf K (h rank) t on
+  pub whole : links ≡ there + on

@@ -3,12 +3,25 @@
 use Prim.Native.Nat.{ℕ, zero, suc, _+_, _≤_, _<_, min}
 use mathlib.Core.Path.{_≡_}
 use mathlib.Core.Bool.{cond}
-use mathlib.Core.List.{List, [], _∷_, _++_}
+use mathlib.Core.List.{List, [], _∷_, _++_, List·Memᴰ}
 use lib.Dec.{eqb, ltb}
 use Rattle.basics.specs.Places.{least}
 
 abbrev pub Row : Type 0
 Row = List (ℕ × ℕ)
+
+-- the row holds (r, m): rank r at m joins
+abbrev pub In : ℕ → ℕ → Row → Type 0
+In r m x = List·Memᴰ (r, m) x
+
+-- m is a sum of joins over a rank found in both rows
+pub record Shared (x y : Row) (m : ℕ) : Type 0 where
+  pub rank : ℕ
+  pub first : ℕ
+  pub second : ℕ
+  pub in-first : In rank first x
+  pub in-second : In rank second y
+  pub whole : m ≡ first + second
 
 -- the joins that a row has for rank r, and B where it has none
 unfoldable pub at : ℕ → Row → ℕ → ℕ

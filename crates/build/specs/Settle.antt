@@ -1,0 +1,85 @@
+-- The second half of one hub's walk, told by the met room: which met frames get an entry, whether each has room, and what
+-- the label room and the count room hold afterwards.
+use Prim.Native.Nat.{ℕ, _-_, _*_, _≤_, _<_}
+use mathlib.Core.Path.{_≡_}
+use mathlib.Core.Bool.{Bool, true, cond, not, _&&_}
+use mathlib.Core.List.{List, [], _∷_, _++_}
+use lib.ListN.{length, getD}
+use lib.Dec.{leb, ltb}
+use Rattle.basics.specs.Places.{some}
+use Rattle.theory.specs.Rows.{Row}
+use Rattle.rows.specs.Entry.{decode}
+use Rattle.rows.specs.Rooms.{rowAt}
+use Rattle.build.specs.Build.{labelsOf, countsOf}
+use Rattle.build.specs.Explore.{Queued}
+use Rattle.build.specs.declared.settle.Walked.{Walked}
+use Rattle.build.specs.declared.settle.Walked.the-variants.{Made, Full, Far}
+
+-- the rows that a label room and a count room hold
+unfoldable pub rowsIn : ℕ → List ℕ → List ℕ → ℕ → Row
+rowsIn w labels counts v = decode (rowAt w labels counts v)
+
+-- the two rooms hold their rows and nothing else: unused places are 0
+pub record Laid (n w : ℕ) (labels counts : List ℕ) : Type 0 where
+  pub places : labels ≡ labelsOf n w (rowsIn w labels counts)
+  pub numbers : counts ≡ countsOf n (rowsIn w labels counts)
+
+-- the mark of a met frame that is kept: level + 1, below the mark of a dropped one
+unfoldable pub isKept : ℕ → Bool
+isKept mark = ltb 0 mark && ltb mark 65536
+
+-- a kept frame whose row has W entries already
+unfoldable pub lacksRoom : ℕ → ℕ → ℕ → Bool
+lacksRoom w count mark = isKept mark && leb w count
+
+-- a kept frame with over 4,095 joins
+unfoldable pub isFar : ℕ → Bool
+isFar mark = isKept mark && ltb 4096 mark
+
+-- every kept frame has room for one more entry
+unfoldable pub fitsAll : ℕ → List ℕ → List ℕ → Bool
+fitsAll w counts met = not (some (λ v. lacksRoom w (getD counts v 0) (getD met v 0)) 0 (length met))
+
+-- no kept frame has over 4,095 joins
+unfoldable pub nearAll : List ℕ → Bool
+nearAll met = not (some (λ v. isFar (getD met v 0)) 0 (length met))
+
+-- the row with (rank, level) behind it where the mark says kept, else the row itself
+unfoldable pub gain : ℕ → ℕ → Row → Row
+gain rank mark x = cond (isKept mark) (x ++ ((rank, mark - 1) ∷ [])) x
+
+-- the rows after the walk of this rank
+unfoldable pub rowsAfter : ℕ → ℕ → List ℕ → List ℕ → List ℕ → ℕ → Row
+rowsAfter w rank labels counts met v = gain rank (getD met v 0) (rowsIn w labels counts v)
+
+-- row v lies in the label room, and has room for an entry if the mark says kept
+pub record GiveIn (w v mark : ℕ) (labels counts : List ℕ) : Type 0 where
+  pub inside : v < length counts
+  pub long : length labels ≡ length counts * w
+  pub width : w ≤ 256
+  pub room : isKept mark ≡ true → getD counts v 0 < w
+
+-- the rooms as they have to be when phase two begins
+pub record SettleIn (w rank : ℕ) (labels counts met queue : List ℕ) (tail : ℕ) : Type 0 where
+  pub frames : length met ≤ 4096
+  pub wide : 1 ≤ w
+  pub width : w ≤ 256
+  pub laid : Laid (length met) w labels counts
+  pub queued : Queued met queue tail
+
+-- the walk decides before it stores: ROOM first, then FAR
+unfoldable pub settleOf : ℕ → List ℕ → List ℕ → Walked
+settleOf w counts met =
+    let near : Walked = cond (nearAll met) Made Far in
+    cond (fitsAll w counts met) near Full
+
+-- either the whole walk is made or rows and counts stay
+unfoldable pub labelsAfter : Walked → ℕ → ℕ → List ℕ → List ℕ → List ℕ → List ℕ
+labelsAfter Made w rank labels counts met = labelsOf (length met) w (rowsAfter w rank labels counts met)
+labelsAfter Full w rank labels counts met = labels
+labelsAfter Far w rank labels counts met = labels
+
+unfoldable pub countsAfter : Walked → ℕ → ℕ → List ℕ → List ℕ → List ℕ → List ℕ
+countsAfter Made w rank labels counts met = countsOf (length met) (rowsAfter w rank labels counts met)
+countsAfter Full w rank labels counts met = counts
+countsAfter Far w rank labels counts met = counts
