@@ -1,12 +1,12 @@
 -- A walk with every frame of its queue done is theory's finished walk, so its levels are the level-by-level ones, and the
 -- met room holds the marks that the definition says.
-use Prim.Native.Nat.{ℕ, zero, suc, _+_, _-_, _%_, _≤_, _<_}
-use mathlib.Core.Path.{_≡_, refl, sym, ap, _∙_}
-use mathlib.Core.Logic.{_⊎_, inl, inr}
-use mathlib.Core.Bool.{Bool, true, false, cond}
+use Prim.Native.Nat.{ℕ, _+_, _-_, _≤_, _<_}
+use mathlib.Core.Path.{_≡_, sym, ap, _∙_}
+use mathlib.Core.Logic.{_⊎_}
+use mathlib.Core.Bool.{Bool, cond}
 use mathlib.Core.List.{List}
 use native.Mathlib.Omega.{arith}
-use lib.ListN.{length, getD}
+use lib.ListN.{getD}
 use lib.Dec.{leb, ltb}
 use borrow.Author.Tests.{lt-ltb, le-ltb, leb-true, leb-false}
 use Rattle.basics.specs.Places.{table}
@@ -15,10 +15,9 @@ use Rattle.theory.specs.Links.{Block, Link}
 use Rattle.theory.specs.Plain.{ones, joined}
 use Rattle.theory.specs.Walk.{Met, levels}
 use Rattle.theory.proofs.DistPlain.{joined-link, link-joined}
-use Rattle.theory.proofs.DistWeight.{link-inside}
 use Rattle.theory.proofs.Levels.{oneEach, met-levels}
 use Rattle.build.specs.Walk.{mark}
-use Rattle.build.specs.Explore.{Bfs, Kept, Dropped, Parent, levelAt}
+use Rattle.build.specs.Explore.{Bfs, Kept, Dropped, levelAt}
 
 -- the level that a met room holds for v, and B where v is not met
 unfoldable pub levelIn : ℕ → List ℕ → ℕ → ℕ

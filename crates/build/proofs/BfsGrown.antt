@@ -8,8 +8,6 @@ use native.Mathlib.Omega.{arith}
 use lib.ListN.{length, getD, set, length-set}
 use lib.Seq.{getD-set-same, getD-set-other}
 use Rattle.basics.proofs.Laws.{by-cases, cases, lt-or-ge, set-cases}
-use Rattle.theory.specs.Links.{Link}
-use Rattle.theory.specs.Plain.{ones}
 use Rattle.build.specs.Explore.{Queue, Grown}
 use Rattle.build.proofs.BfsQueue.{push, room}
 

@@ -1,16 +1,13 @@
 -- The queue of a walk: as many frames as places of the met room are filled, so there is room for a frame that is not met.
-use Prim.Native.Nat.{ℕ, zero, suc, _+_, _-_, _≤_, _<_, min}
-use mathlib.Core.Path.{_≡_, refl, sym, ap, _∙_}
-use mathlib.Core.Logic.{_⊎_, inl, inr}
+use Prim.Native.Nat.{ℕ, zero, suc, _+_, _≤_, _<_, min}
+use mathlib.Core.Path.{_≡_, sym, ap, _∙_}
 use mathlib.Core.List.{List, [], _∷_}
 use native.Mathlib.Decide.{ℕ-discrete}
 use native.Mathlib.Omega.{arith}
 use lib.ListN.{length, getD, set, length-set}
 use lib.Seq.{getD-set-same, getD-set-other}
 use Rattle.basics.proofs.Laws.{by-cases, cases, set-cases}
-use Rattle.theory.specs.Links.{Link}
-use Rattle.theory.specs.Plain.{ones}
-use Rattle.build.specs.Explore.{Queued, Queue, filled, Grown}
+use Rattle.build.specs.Explore.{Queue, filled}
 
 -- ---- counting the filled places
 

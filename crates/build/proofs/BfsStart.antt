@@ -1,14 +1,14 @@
 -- A walk at its start: the hub alone is met, at level 0.
-use Prim.Native.Nat.{ℕ, zero, suc, _+_, _%_, _≤_, _<_}
-use mathlib.Core.Path.{_≡_, refl, sym, ap, _∙_}
-use mathlib.Core.Logic.{_⊎_, inl, inr}
+use Prim.Native.Nat.{ℕ, zero, suc, _%_, _<_}
+use mathlib.Core.Path.{_≡_, refl, ap, _∙_}
+use mathlib.Core.Logic.{inl}
 use mathlib.Core.Bool.{Bool}
 use mathlib.Core.List.{List}
 use native.Mathlib.Omega.{arith}
 use lib.ListN.{length, getD, set, replicate, length-set, length-replicate, getD-replicate, List·getD-eq-default}
 use lib.Seq.{getD-set-same}
 use Rattle.basics.proofs.Laws.{lt-or-ge}
-use Rattle.build.specs.Explore.{Queue, Bfs, filled, levelAt}
+use Rattle.build.specs.Explore.{Queue, Bfs, filled}
 use Rattle.build.proofs.BfsQueue.{push}
 
 filled-zero : (n : ℕ) → filled (replicate n 0) ≡ 0

@@ -1,15 +1,14 @@
 -- The first half of a walk as a whole: from what it is given to what its parts need, and from what they leave to the met
 -- room of the definition. The table of notes is the hub's row while the walk lasts, and as lent again behind it.
-use Prim.Native.Nat.{ℕ, _+_, _*_, _≤_, _<_, min}
+use Prim.Native.Nat.{ℕ, _≤_, _<_, min}
 use mathlib.Core.Path.{_≡_, refl, sym, ap, _∙_}
-use mathlib.Core.Bool.{Bool}
 use mathlib.Core.List.{List}
 use native.Mathlib.Omega.{arith}
-use lib.ListN.{length, getD, replicate, length-replicate, getD-replicate}
+use lib.ListN.{length, getD, length-replicate, getD-replicate}
 use lib.Dec.{leb}
 use Rattle.basics.proofs.Laws.{least-most}
 use Rattle.theory.specs.Distance.{far}
-use Rattle.theory.specs.Rows.{at, answer}
+use Rattle.theory.specs.Rows.{answer}
 use Rattle.rows.specs.Entry.{rankOf, decode}
 use Rattle.rows.specs.Rooms.{partOf, rowAt}
 use Rattle.build.specs.Walk.{soFar, levelOf, metRoom}

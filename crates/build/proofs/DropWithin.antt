@@ -1,6 +1,6 @@
 -- The drop test of a frame: it holds exactly if the answer for the hub and the frame is at most the level.
 use Prim.Native.Nat.{ℕ, zero, suc, _+_, _-_, _≤_, _<_, min}
-use mathlib.Core.Path.{_≡_, refl, sym, ap, _∙_}
+use mathlib.Core.Path.{_≡_, refl, ap}
 use mathlib.Core.Bool.{Bool, true, false, cond}
 use mathlib.Core.List.{List, [], _∷_}
 use native.Mathlib.Nat.{sub-zero}
@@ -11,7 +11,7 @@ use native.Mathlib.Decide.{ℕ-discrete}
 use lib.Dec.{leb, eqb}
 use borrow.Author.Tests.{le-leb, lt-leb, leb-true, eq-eqb, ne-eqb}
 use Rattle.basics.specs.Places.{some, least}
-use Rattle.basics.proofs.Laws.{bcase, by-cases, not-both, less-one, lt-or-ge, same-truth, cond-true, cond-false, least-le, least-found, some-hit, some-miss, some-end, some-one, some-found}
+use Rattle.basics.proofs.Laws.{by-cases, less-one, lt-or-ge, same-truth, cond-true, cond-false, least-le, least-found, some-hit, some-miss, some-end, some-one, some-found}
 use Rattle.theory.specs.Rows.{Row, at, answer}
 use Rattle.rows.specs.Entry.{rankOf, joinsOf, decode}
 use Rattle.build.specs.Explore.{within}

@@ -1,6 +1,8 @@
 pub mod BfsQueue
 pub mod BfsGrown
 pub mod BfsStep
+pub mod BfsDropped
+pub mod BfsKept
 pub mod BfsStart
 pub mod BfsEnd
 pub mod BfsWalk

@@ -1,6 +1,6 @@
 -- The first half of one hub's walk: what it needs of the rooms, what it leaves in the queue, and what holds between two
 -- frames of it. `noted` is the hub's row by rank: its joins, and 65,536 where the row lacks the rank.
-use Prim.Native.Nat.{ℕ, zero, suc, _+_, _-_, _*_, _%_, _≤_, _<_, min}
+use Prim.Native.Nat.{ℕ, _+_, _-_, _*_, _%_, _≤_, _<_, min}
 use mathlib.Core.Path.{_≡_}
 use mathlib.Core.Logic.{_⊎_}
 use mathlib.Core.Bool.{Bool, true, false}
@@ -55,7 +55,7 @@ pub record Queue (met queue : List ℕ) (t : ℕ) : Type 0 where
   pub is : Queued met queue t
   pub count : filled met ≡ t
 
--- one more than the level at which v was met, the drop mark taken off
+-- one more than the level at which v was met: the drop mark taken off
 abbrev pub levelAt : List ℕ → ℕ → ℕ
 levelAt met v = getD met v 0 % 65536
 

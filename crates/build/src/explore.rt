@@ -14,7 +14,7 @@ use rows::entry::rank_of;
 use rows::part::row_part;
 
 // What the met room has more for a dropped frame: above every level.
-const DROPPED: u32 = 65536;
+pub const DROPPED: u32 = 65536;
 
 // The joins noted for a rank that the hub's row lacks: above every level.
 const LACKING: u32 = 65536;

@@ -15,3 +15,8 @@ pub const COUNT_BITS: usize = 9;
 pub const RANK_BITS: usize = 12;
 
 pub const JOINS_BITS: usize = 12;
+
+// What stands before the order, and an entry.
+pub const HEADER_BITS: usize = 32;
+
+pub const ENTRY_BITS: usize = 24;

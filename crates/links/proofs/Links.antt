@@ -13,13 +13,13 @@ use borrow.Author.Tests.{le-leb, lt-leb, lt-ltb, eq-eqb, ne-eqb, leb-false, ltb-
 use Rattle.basics.specs.Places.{first, some}
 use Rattle.basics.proofs.Laws.{by-cases, both, both-true, either-false, either-left, either-right, neither, not-of-true, not-of-false, of-not-true, of-not-false, first-before, some-one, some-found, some-not, some-first, none-first}
 use Rattle.refusal.specs.Numbers.{SIZE, LENGTH, STARTS, LINKS}
-use Rattle.refusal.specs.Tests.{test, _then_, refusal}
-use Rattle.refusal.specs.declared.Verdict.{Verdict}
+use Rattle.refusal.specs.Tests.{_then_, refusal}
 use Rattle.refusal.specs.declared.Verdict.the-variants.{Fine, Refused}
 use Rattle.refusal.proofs.Laws.{test-fine, test-refused, test-held, after-fine, after-refused}
 use Rattle.theory.specs.Links.{Block, Link}
 use Rattle.theory.specs.Plain.{ones}
-use Rattle.links.specs.Links.{framesFit, placesFit, falls, startsRight, degree, holds, notAbove, faultyLink, faultyList, startsTest, listsTest, checkLinks, Starts}
+use Rattle.links.specs.Links.{framesFit, placesFit, falls, startsRight, degree, holds, notAbove, faultyLink, faultyList, startsTest, listsTest, checkLinks}
+use Rattle.links.specs.Inner.{Starts, ListIn}
 
 -- ---- sizes and lengths
 
@@ -147,9 +147,13 @@ starts-rise S s u (suc v) h k =
 pub starts-within : {n : ℕ} (S : List ℕ) {L : List ℕ} → Starts n S L → (v : ℕ) → v ≤ n → getD S v 0 ≤ length L
 starts-within {n} S s v h = omega (arith, s .last, starts-rise S s v n h (omega arith))
 
-pub list-within : {n : ℕ} (S : List ℕ) {L : List ℕ} → Starts n S L → (v : ℕ) → v < n
-    → (getD S v 0 ≤ getD S (v + 1) 0) × (getD S (v + 1) 0 ≤ length L) × (length L ≤ 65536)
-list-within S s v h = (s .rise v h, starts-within S s (v + 1) (omega arith), s .places)
+pub list-in : {n : ℕ} (S : List ℕ) {L : List ℕ} → Starts n S L → (v : ℕ) → v < n → ListIn S L v
+list-in S s v h = record {
+  frame = omega (arith, s .long);
+  rise = s .rise v h;
+  within = starts-within S s (v + 1) (omega arith);
+  places = s .places;
+}
 
 -- ---- the mirror
 

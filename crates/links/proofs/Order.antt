@@ -1,21 +1,19 @@
 -- The order's test: what a pass over the ranks keeps, that sizes and lengths tested first leave the test itself, and that
 -- a passed test gives each frame once.
-use Prim.Native.Nat.{ℕ, zero, suc, _+_, _-_, _≤_, _<_}
+use Prim.Native.Nat.{ℕ, _+_, _-_, _≤_, _<_}
 use mathlib.Core.Path.{_≡_, refl, sym, ap, _∙_}
-use mathlib.Core.Bool.{Bool, true, false, _||_, _&&_}
+use mathlib.Core.Bool.{Bool, true, false}
 use mathlib.Core.List.{List}
 use native.Mathlib.Omega.{arith}
-use native.Mathlib.Numerals.{add-one}
 use native.Mathlib.Decide.{ℕ-discrete}
 use native.Mathlib.Nat.{sub-zero}
 use lib.ListN.{length, getD, set, replicate, length-set, length-replicate, getD-replicate}
-use lib.Dec.{leb, ltb, eqb}
+use lib.Dec.{leb, eqb}
 use borrow.Author.Tests.{le-leb, lt-leb, eq-eqb, ne-eqb, leb-false, eqb-true, eqb-false}
 use Rattle.basics.specs.Places.{first, some}
-use Rattle.basics.proofs.Laws.{bcase, by-cases, not-both, both, either-false, either-left, either-right, neither, same-truth, first-hit, first-miss, first-end, first-before, some-end, some-one, some-found, some-not, some-none, at-set, less-one}
+use Rattle.basics.proofs.Laws.{by-cases, either-false, either-left, either-right, neither, same-truth, first-before, first-here, first-step, first-over, some-end, some-one, some-found, some-not, at-set}
 use Rattle.refusal.specs.Numbers.{SIZE, LENGTH, ORDER}
-use Rattle.refusal.specs.Tests.{test, _then_, refusal}
-use Rattle.refusal.specs.declared.Verdict.{Verdict}
+use Rattle.refusal.specs.Tests.{refusal}
 use Rattle.refusal.specs.declared.Verdict.the-variants.{Fine, Refused}
 use Rattle.refusal.proofs.Laws.{test-fine, test-refused, test-held, after-fine, after-refused}
 use Rattle.theory.specs.Links.{Order}
@@ -100,8 +98,7 @@ module _ {n : ℕ} {O : List ℕ} {seen : List Bool} {r : ℕ} (s : Seen n O see
   pub seen-stop : r < n → faultyRank n (λ j. getD O j 0) r ≡ true → orderTest n O ≡ Refused (refusal ORDER r)
   unfolding orderTest
   seen-stop h bad =
-      let here : first (faultyRank n (λ j. getD O j 0)) 0 n ≡ r =
-      sym (s .rest) ∙ ap (first (faultyRank n (λ j. getD O j 0)) r) (less-one h) ∙ first-hit _ _ _ bad in
+      let here : first (faultyRank n (λ j. getD O j 0)) 0 n ≡ r = sym (s .rest) ∙ first-here _ r n h bad in
       rw here (test-refused ORDER r (ne-eqb r n (λ e. omega arith)))
 
   -- a frame seen before makes a faulty rank
@@ -124,11 +121,7 @@ module _ {n : ℕ} {O : List ℕ} {seen : List Bool} {r : ℕ} (s : Seen n O see
             (λ e. sym (stands-this f r v e))
             (λ e. s .has v small ∙ sym (stands-other f r v e));
         rest =
-            ap (λ (k : ℕ). first (faultyRank n f) k (n - (r + 1))) (add-one r)
-            ∙ sym
-            (ap (first (faultyRank n f) r) (less-one h)
-            ∙ first-miss (faultyRank n f) r (n - (r + 1))
-            (rank-sound n f r low (sym (s .has (getD O r 0) (omega arith)) ∙ new)))
+            first-step (faultyRank n f) r n h (rank-sound n f r low (sym (s .has (getD O r 0) (omega arith)) ∙ new))
             ∙ s .rest;
       }
 
@@ -136,9 +129,7 @@ module _ {n : ℕ} {O : List ℕ} {seen : List Bool} {r : ℕ} (s : Seen n O see
   pub seen-end : n ≤ r → orderTest n O ≡ Fine
   unfolding orderTest
   seen-end h =
-      let none-left : n - r ≡ 0 = omega arith in
-      let here : first (faultyRank n (λ j. getD O j 0)) 0 n ≡ r =
-      sym (s .rest) ∙ ap (first (faultyRank n (λ j. getD O j 0)) r) none-left ∙ first-end _ r in
+      let here : first (faultyRank n (λ j. getD O j 0)) 0 n ≡ r = sym (s .rest) ∙ first-over _ r n h in
       rw here (test-fine ORDER r (eq-eqb r n (omega (arith, s .upto))))
 
 -- no rank passed yet

@@ -1,6 +1,5 @@
 -- The tests on a block of links, 1 to 4, in the paper's order. n frames, start positions S, neighbour places L.
-use Prim.Native.Nat.{ℕ, _+_, _-_, _≤_, _<_}
-use mathlib.Core.Path.{_≡_}
+use Prim.Native.Nat.{ℕ, _+_, _-_}
 use mathlib.Core.Bool.{Bool, not, _&&_, _||_}
 use mathlib.Core.List.{List}
 use lib.ListN.{length, getD}
@@ -56,15 +55,6 @@ faultyList n S L v = some (faultyLink n S L v) (getD S v 0) (degree S v)
 -- 3: start positions break their rule
 unfoldable pub startsTest : ℕ → List ℕ → List ℕ → Verdict
 startsTest n S L = test (startsRight n S L) STARTS 0
-
--- what the scan of the lists goes by: sizes and lengths fit, and the start positions keep their rule
-pub record Starts (n : ℕ) (S L : List ℕ) : Type 0 where
-  pub frames : n ≤ 4096
-  pub places : length L ≤ 65536
-  pub long : length S ≡ n + 1
-  pub front : getD S 0 0 ≡ 0
-  pub rise : (v : ℕ) → v < n → getD S v 0 ≤ getD S (v + 1) 0
-  pub last : getD S n 0 ≡ length L
 
 -- 4: a list breaks its rule; the lowest such frame
 unfoldable pub listsTest : ℕ → List ℕ → List ℕ → Verdict

@@ -3,13 +3,13 @@
 // of w's list, so a cursor for each frame says how many have come. A right guess needs no search; a wrong one costs one.
 use refusal::Verdict;
 ghost use mathlib.Core.Path.{_≡_};
-ghost use mathlib.Core.Bool.{_&&_};
 ghost use Prim.Native.Nat.{_+_, _-_, _≤_, _<_};
 ghost use lib.ListN.{length, getD};
-ghost use lib.Dec.{leb, ltb, eqb};
+ghost use lib.Dec.{eqb};
 ghost use Rattle.basics.specs.Places.{first};
 ghost use Rattle.refusal.specs.Tests.{_then_};
-ghost use Rattle.links.specs.Links.{startsRight, holds, notAbove, faultyLink, faultyList, startsTest, listsTest, Starts};
+ghost use Rattle.links.specs.Links.{startsRight, holds, notAbove, faultyLink, faultyList, startsTest, listsTest};
+ghost use Rattle.links.specs.Inner.{Starts, ListIn};
 
 // Whether the start positions keep their rule.
 pub fn starts_right(n: usize, starts: &[u32], places: &[u32]) -> bool
@@ -48,15 +48,8 @@ pub fn find(places: &[u32], from: usize, end: usize, v: usize) -> usize
 }
 
 // Whether the list of w holds v. A guess that is right moves the cursor on, a search sets it anew.
-pub fn mirrored(
-    n: usize,
-    starts: &[u32],
-    places: &[u32],
-    w: usize,
-    v: usize,
-    cursors: &mut [u32],
-) -> bool
-    requires { ⌜ Starts n (now starts) (now places) × (w < n) × (n ≤ length (now cursors)) ⌝ }
+pub fn mirrored(starts: &[u32], places: &[u32], w: usize, v: usize, cursors: &mut [u32]) -> bool
+    requires { ⌜ ListIn (now starts) (now places) w × (w < length (now cursors)) ⌝ }
     ensures { λ r. ⌜ r ≡ holds (now (starts .entry)) (now (places .entry)) w v ⌝ }
 {
     let next = w + 1;
@@ -114,7 +107,7 @@ pub fn faulty(
     if not_above(starts, places, v, at) {
         return true;
     }
-    if mirrored(n, starts, places, w, v, cursors) {
+    if mirrored(starts, places, w, v, cursors) {
         return false;
     }
     true

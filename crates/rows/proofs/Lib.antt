@@ -4,3 +4,4 @@ pub mod PairAnswer
 pub mod PairDepends
 pub mod PairLaws
 pub mod RoomLaws
+pub mod SpreadLaws

@@ -110,16 +110,17 @@ told-apart (answers.Refused r) answers.None p q e = absurd (omega (arith, ap (λ
 told-apart (answers.Refused r) (answers.Refused s) p q e =
     λ i. answers.Refused record { number = e i .number; place = e i .place }
 
-NamedVerdict : Verdict → Type 0
+-- the same of a verdict
+unfoldable pub NamedVerdict : Verdict → Type 0
 NamedVerdict Fine = Unit {0}
 NamedVerdict (Refused r) = 1 ≤ r .number
 
-named-test : (b : Bool) (number place : ℕ) → 1 ≤ number → NamedVerdict (test b number place)
+pub named-test : (b : Bool) (number place : ℕ) → 1 ≤ number → NamedVerdict (test b number place)
 unfolding NamedVerdict test
 named-test true number place h = tt
 named-test false number place h = h
 
-named-then : (v next : Verdict) → NamedVerdict v → NamedVerdict next → NamedVerdict (v then next)
+pub named-then : (v next : Verdict) → NamedVerdict v → NamedVerdict next → NamedVerdict (v then next)
 unfolding NamedVerdict _then_
 named-then Fine next p q = q
 named-then (Refused r) next p q = p

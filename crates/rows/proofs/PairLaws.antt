@@ -11,7 +11,7 @@ use Rattle.refusal.specs.declared.Refusal.{Refusal}
 use Rattle.refusal.specs.declared.Verdict.{Verdict}
 use Rattle.refusal.specs.declared.Verdict.the-variants.{Fine, Refused}
 use Rattle.refusal.proofs.Laws.{test-fine, test-refused, test-held, then-fine, after-fine, after-refused}
-use Rattle.rows.specs.Rooms.{Rooms, roomTests, frameTest, rowTest, rowAt, soundRow}
+use Rattle.rows.specs.Rooms.{Rooms, roomTests, frameTest, rowTest, rowAt, soundRow, checkRow}
 use Rattle.rows.specs.Meetings.{Rises, meetingOf}
 use Rattle.rows.specs.Pair.{pairTests, pairOf, pairTold, answered, told, toldBy, RowIn}
 use Rattle.rows.specs.declared.merge.Best.{Best}
@@ -144,3 +144,26 @@ pub answer-told : (n w : ℕ) (labels counts : List ℕ) (s t : ℕ) → told (p
 unfolding pairOf pairTold
 answer-told n w labels counts s t =
     told-answered (pairTests n w labels counts s t) (meetingOf (rowAt w labels counts s) (rowAt w labels counts t))
+
+-- ---- the row check
+
+module _ (n w : ℕ) (labels counts : List ℕ) (v : ℕ) where
+  pub check-rooms-first : {r : Refusal} → roomTests n w labels counts ≡ Refused r → checkRow n w labels counts v ≡ Refused r
+  unfolding checkRow
+  check-rooms-first e = after-refused _ e
+
+  pub check-frame : roomTests n w labels counts ≡ Fine → n ≤ v → checkRow n w labels counts v ≡ Refused (refusal 8 0)
+  unfolding checkRow
+  check-frame e h = after-fine _ e ∙ after-refused _ (frame-refused 0 h)
+
+  pub check-row-alone : roomTests n w labels counts ≡ Fine → v < n → checkRow n w labels counts v ≡ rowTest n n w labels counts v
+  unfolding checkRow
+  check-row-alone e h = after-fine _ e ∙ after-fine _ (frame-fine 0 h)
+
+  pub row-checked : checkRow n w labels counts v ≡ Fine
+      → Rooms n w labels counts × (v < n) × (soundRow n n w labels counts v ≡ true)
+  unfolding checkRow
+  row-checked e =
+      let a = then-fine (roomTests n w labels counts) _ e in
+      let b = then-fine (frameTest n v 0) _ (a .1) in
+      (fine-rooms n w labels counts (a .0), frame-held n v 0 (b .0), row-held n w labels counts v (b .1))

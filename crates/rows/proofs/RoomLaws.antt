@@ -8,7 +8,7 @@ use borrow.Author.Tests.{leb-true, le-leb, lt-leb, eqb-true, eq-eqb, ne-eqb, ltb
 use lib.ListN.{length, getD}
 use lib.Dec.{leb, ltb, eqb}
 use Rattle.basics.specs.Places.{first, some}
-use Rattle.basics.proofs.Laws.{bcase, both-true, both}
+use Rattle.basics.proofs.Laws.{bcase, both-true, both, of-not-false, not-of-true, first-before, first-none}
 use Rattle.refusal.specs.Tests.{test, _then_, refusal}
 use Rattle.refusal.specs.declared.Refusal.{Refusal}
 use Rattle.refusal.specs.declared.Verdict.{Verdict}
@@ -132,3 +132,21 @@ pub count-unsound : (bound n w : ℕ) (labels counts : List ℕ) (v : ℕ) → w
     → soundRow bound n w labels counts v ≡ false
 unfolding soundRow
 count-unsound bound n w labels counts v h = rw (lt-leb (getD counts v 0) w h) refl
+
+-- what the test of all rows lets through
+pub rows-sound : (bound n w : ℕ) (labels counts : List ℕ) → checkRows bound n w labels counts ≡ Fine
+    → Rooms n w labels counts × ((v : ℕ) → v < n → soundRow bound n w labels counts v ≡ true)
+unfolding checkRows rowsTest
+rows-sound bound n w labels counts e =
+    let unsound : ℕ → Bool = λ u. not (soundRow bound n w labels counts u) in
+    let both = then-fine (roomTests n w labels counts) _ e in
+    let all : first unsound 0 n ≡ n = eqb-true (first unsound 0 n) n (test-held _ 9 _ (both .1)) in
+    (fine-rooms n w labels counts (both .0), λ v h. of-not-false _ (first-before unsound 0 n v (omega arith) (omega arith)))
+
+-- and what it asks
+pub sound-rows : (bound n w : ℕ) (labels counts : List ℕ) → Rooms n w labels counts
+    → ((v : ℕ) → v < n → soundRow bound n w labels counts v ≡ true) → checkRows bound n w labels counts ≡ Fine
+sound-rows bound n w labels counts r sound =
+    let unsound : ℕ → Bool = λ u. not (soundRow bound n w labels counts u) in
+    let all : first unsound 0 n ≡ 0 + n = first-none unsound 0 n (λ v h k. not-of-true (sound v (omega arith))) in
+    rows-alone bound n w labels counts r ∙ rows-fine bound n w labels counts (omega arith)

@@ -23,7 +23,7 @@ pairTests n w labels counts s t =
     then rowTest n n w labels counts s
     then rowTest n n w labels counts t
 
--- the least sum of joins over ranks found in both rows; "none" if no rank is shared
+-- behind fine tests: the least sum of joins over ranks found in both rows; "none" if no rank is shared
 unfoldable pub answered : Verdict → Best → Answer
 answered Fine Nowhere = answers.None
 answered Fine (Meet m) = answers.Joins (m .sum)
@@ -34,24 +34,26 @@ unfoldable pub pairOf : ℕ → ℕ → List ℕ → List ℕ → ℕ → ℕ �
 pairOf n w labels counts s t =
     answered (pairTests n w labels counts s t) (meetingOf (rowAt w labels counts s) (rowAt w labels counts t))
 
--- the paper's numbers of an answer: success is 0, and what is not named is 0
+-- the paper's numbers: a number, a place, whether a rank is shared, and the joins
 pub record Told : Type 0 where
   pub number : ℕ
   pub place : ℕ
   pub found : Bool
   pub joins : ℕ
 
+-- success is 0; each refusal also gives a place; any other number that the call hands back is then 0
 unfoldable pub told : Answer → Told
 told (answers.Joins j) = record { number = 0; place = 0; found = true; joins = j }
 told answers.None = record { number = 0; place = 0; found = false; joins = 0 }
 told (answers.Refused r) = record { number = r .number; place = r .place; found = false; joins = 0 }
 
--- the paper's numbers of the pair question
+-- the same numbers from the tests and the best meeting
 unfoldable pub toldBy : Verdict → Best → Told
 toldBy Fine (Meet m) = record { number = 0; place = 0; found = true; joins = m .sum }
 toldBy Fine Nowhere = record { number = 0; place = 0; found = false; joins = 0 }
 toldBy (Refused r) best = record { number = r .number; place = r .place; found = false; joins = 0 }
 
+-- the paper's numbers of the pair question
 unfoldable pub pairTold : ℕ → ℕ → List ℕ → List ℕ → ℕ → ℕ → Told
 pairTold n w labels counts s t =
     toldBy (pairTests n w labels counts s t) (meetingOf (rowAt w labels counts s) (rowAt w labels counts t))

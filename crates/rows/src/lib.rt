@@ -3,8 +3,11 @@
 mod asked;
 pub mod check;
 pub mod entry;
+mod farthest;
+pub mod lookup;
 mod merge;
 pub mod pair;
 pub mod part;
 mod rooms;
 mod sound;
+pub mod spread;

@@ -1,8 +1,7 @@
 -- `links::check_links` meets its contract: at each return the tests that led there say which test of `checkLinks` decides.
-use mathlib.Core.Path.{_≡_, sym, _∙_}
+use mathlib.Core.Path.{sym, _∙_}
 use native.Mathlib.Omega.{arith}
 use borrow.Author.Needs.{needs}
-use lib.ListN.{length}
 use Rattle.links.proofs.Links.{size-few, size-many, size-places, links-size, links-length, links-alone}
 use Rattle.links.proofs.check_links.Statement.{statement}
 use Rattle.links.proofs.check_links.Tie as tie

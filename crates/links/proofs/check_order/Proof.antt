@@ -1,8 +1,7 @@
 -- `links::check_order` meets its contract: at each return the tests that led there say which test of `checkOrder` decides.
-use mathlib.Core.Path.{_≡_, sym, _∙_}
+use mathlib.Core.Path.{sym, _∙_}
 use native.Mathlib.Omega.{arith}
 use borrow.Author.Needs.{needs}
-use lib.ListN.{length}
 use Rattle.links.proofs.Links.{no-frames, many-frames}
 use Rattle.links.proofs.Order.{order-alone, order-unfit, order-length}
 use Rattle.links.proofs.check_order.Statement.{statement}

@@ -1,11 +1,10 @@
 -- `links::order_by_degree` meets its contract: at each return the tests that led there say which test of `degreeTests`
 -- decides; where none refuses, the room is filled.
-use mathlib.Core.Path.{_≡_, sym, _∙_}
+use mathlib.Core.Path.{sym, _∙_}
 use native.Mathlib.Omega.{arith}
 use borrow.Author.Needs.{needs}
-use lib.ListN.{length}
 use Rattle.links.proofs.Links.{size-few, size-many, size-places}
-use Rattle.links.proofs.Counts.{degree-size, degree-starts, degree-room, degree-alone, tests-degrees, degree-refused, degree-filled}
+use Rattle.links.proofs.Placing.{degree-size, degree-starts, degree-room, degree-alone, tests-degrees, degree-refused, degree-filled}
 use Rattle.links.proofs.order_by_degree.Statement.{statement}
 use Rattle.links.proofs.order_by_degree.Tie as tie
 

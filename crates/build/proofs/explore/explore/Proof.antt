@@ -1,8 +1,6 @@
 -- The notes are made of the hub's row, the walk goes by them, and forgetting the row brings the table back.
-use mathlib.Core.Path.{_≡_, sym, ap, _∙_}
 use native.Mathlib.Omega.{arith}
 use borrow.Author.Needs.{needs}
-use lib.ListN.{length, getD}
 use Rattle.build.proofs.BfsWalk.{note-in, spread-in, forget-in, notes-back, room-is}
 use Rattle.build.proofs.explore.explore.Statement.{statement}
 use Rattle.build.proofs.explore.explore.Tie as tie

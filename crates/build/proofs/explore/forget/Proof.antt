@@ -1,11 +1,10 @@
 -- What is left of the row, taken out of the table as it stands, is the whole row taken out of the lent table. The loop
 -- takes one entry a turn, and ends at the row's end.
 use Prim.Native.Nat.{_-_}
-use mathlib.Core.Path.{_≡_, refl, sym, ap, _∙_}
+use mathlib.Core.Path.{_≡_, refl, sym, _∙_}
 use native.Mathlib.Omega.{arith}
 use borrow.Author.Needs.{needs}
 use lib.ListN.{length, drop, length-set, drop-of-length-le}
-use Rattle.rows.specs.Entry.{rankOf}
 use Rattle.build.specs.Explore.{forgotten}
 use Rattle.build.proofs.DropNotes.{forget-on}
 use Rattle.build.proofs.explore.forget.Statement.{statement}

@@ -1,10 +1,9 @@
 -- The places of the list passed so far are met, `Grown`. A turn meets one place more: its frame is met already, or goes
 -- behind the queue, which has room since the frame was not in it. The loop ends at the list's end.
-use Prim.Native.Nat.{_+_, _-_, _*_, _≤_, _<_}
-use mathlib.Core.Path.{_≡_, refl, sym, ap, _∙_}
+use Prim.Native.Nat.{_+_, _-_, _≤_, _<_}
+use mathlib.Core.Path.{_≡_, refl, sym, _∙_}
 use native.Mathlib.Omega.{arith}
-use borrow.Author.Needs.{needs}
-use lib.ListN.{length, getD, length-set}
+use lib.ListN.{length, getD}
 use Rattle.theory.proofs.DistWeight.{start-upto}
 use Rattle.build.specs.Explore.{Grown}
 use Rattle.build.proofs.BfsQueue.{room}

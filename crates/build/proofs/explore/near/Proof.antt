@@ -1,11 +1,11 @@
 -- The entries passed give no sum of at most the level, so what is left of the row decides. The loop takes one entry a
 -- turn, and ends at the first such sum or at the row's end.
 use Prim.Native.Nat.{_-_, _≤_}
-use mathlib.Core.Path.{_≡_, refl, sym, ap, _∙_}
+use mathlib.Core.Path.{_≡_, sym, _∙_}
 use native.Mathlib.Omega.{arith}
 use borrow.Author.Needs.{needs}
-use lib.ListN.{length, getD}
-use Rattle.rows.specs.Entry.{rankOf, joinsOf}
+use lib.ListN.{length}
+use Rattle.rows.specs.Entry.{joinsOf}
 use Rattle.build.specs.Explore.{within}
 use Rattle.build.proofs.DropWithin.{within-from, within-whole, within-hit, within-miss, within-end}
 use Rattle.build.proofs.explore.near.Statement.{statement}
@@ -64,7 +64,7 @@ returns c =
     (c .before .before .before .before .before .loop-test .taken)
     (c .before .before .before .rank-of .ensures)
     (c .before .before .joins-of .ensures)
-    (c .if1 .taken))
+    (omega (arith, c .if1 .taken)))
     ∙ l .inv .1
 
 add-i : tie.Need-add-i Inv-loop μ-loop
@@ -83,7 +83,7 @@ loop-again c =
           (c .before .before .before .before .before .loop-test .taken)
           (c .before .before .before .rank-of .ensures)
           (c .before .before .joins-of .ensures)
-          (c .if1 .left))
+          (omega (arith, c .if1 .left)))
           ∙ l .inv .1,
     )
 

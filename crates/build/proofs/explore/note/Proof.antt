@@ -1,11 +1,11 @@
 -- What is left of the row, noted on top of the table as it stands, is the whole row noted on the lent table. The loop
 -- takes one entry a turn, and ends at the row's end.
 use Prim.Native.Nat.{_-_}
-use mathlib.Core.Path.{_≡_, refl, sym, ap, _∙_}
+use mathlib.Core.Path.{_≡_, refl, sym, _∙_}
 use native.Mathlib.Omega.{arith}
 use borrow.Author.Needs.{needs}
 use lib.ListN.{length, drop, length-set, drop-of-length-le}
-use Rattle.rows.specs.Entry.{rankOf, joinsOf}
+use Rattle.rows.specs.Entry.{joinsOf}
 use Rattle.build.specs.Explore.{notedBy}
 use Rattle.build.proofs.DropNotes.{note-on}
 use Rattle.build.proofs.explore.note.Statement.{statement}

@@ -1,10 +1,9 @@
 -- The frames before the head are done, `Bfs`. A turn does one more, and there are at most as many as the block has, so the
 -- loop ends; at its end every frame of the queue is done.
-use Prim.Native.Nat.{ℕ, _+_, _-_, _*_, _≤_, _<_}
-use mathlib.Core.Path.{_≡_, refl, sym, ap, _∙_}
+use Prim.Native.Nat.{_-_}
+use mathlib.Core.Path.{_≡_, sym, ap, _∙_}
 use native.Mathlib.Omega.{arith}
-use borrow.Author.Needs.{needs}
-use lib.ListN.{length, getD, set, length-set, length-replicate}
+use lib.ListN.{length, length-replicate}
 use Rattle.build.specs.Explore.{Bfs, drops}
 use Rattle.build.proofs.BfsStart.{bfs-start}
 use Rattle.build.proofs.explore.spread.Statement.{statement}

@@ -1,13 +1,11 @@
 -- The frame at the head is met below level n, so no sum wraps. Dropped or kept, the walk has one frame more done.
-use Prim.Native.Nat.{ℕ, _+_, _-_, _*_, _≤_, _<_}
-use mathlib.Core.Path.{_≡_, refl, sym, ap, _∙_}
-use mathlib.Core.Bool.{true, false}
+use mathlib.Core.Path.{refl}
 use native.Mathlib.Omega.{arith}
 use borrow.Author.Needs.{needs}
-use lib.ListN.{length, getD, length-set}
 use Rattle.theory.proofs.DistWeight.{link-inside}
-use Rattle.build.specs.Explore.{Bfs}
-use Rattle.build.proofs.BfsStep.{head-in, head-met, head-low, bfs-drop, bfs-keep}
+use Rattle.build.proofs.BfsStep.{head-in, head-met, head-low}
+use Rattle.build.proofs.BfsDropped.{bfs-drop}
+use Rattle.build.proofs.BfsKept.{bfs-keep}
 use Rattle.build.proofs.explore.step.Statement.{statement}
 use Rattle.build.proofs.explore.step.Tie as tie
 
@@ -85,7 +83,7 @@ meet-requires c κs =
       block = rw (b .long) (s .pre .given .block);
       frames = omega (arith, b .long, s .pre .given .frames);
       frame = omega (arith, b .long, head-in b (s .pre .more));
-      some = omega arith;
+      some = omega (arith, head-met b (s .pre .more));
       line = b .line;
     }
 

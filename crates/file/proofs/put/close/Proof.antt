@@ -18,8 +18,6 @@ use Rattle.file.specs.declared.put.Pen.{Pen}
 use Rattle.file.proofs.Bits.{val-append}
 use Rattle.file.proofs.put.close.Statement.{statement}
 use Rattle.file.proofs.put.close.Tie as tie
-use Rattle.file.proofs.put.close.Reads as reads
-use Rattle.file.proofs.put.close.Lts as lts
 
 module _ (o : List ℕ) (p : Pen) (r : Ready o p []) where
   -- with no bits held nothing is to be stored

@@ -18,8 +18,6 @@ use Rattle.file.specs.Pen.{penBits, penNum, Ready, Put}
 use Rattle.file.proofs.Bits.{val-append}
 use Rattle.file.proofs.put.put.Statement.{statement}
 use Rattle.file.proofs.put.put.Tie as tie
-use Rattle.file.proofs.put.put.Reads as reads
-use Rattle.file.proofs.put.put.Lts as lts
 
 -- the first b bits of the room, with those held, are the number x; beyond the bytes stored it is o₀
 record Stored (o₀ : List ℕ) (x b : ℕ) (o : List ℕ) (at acc nb : ℕ) : Type 0 where

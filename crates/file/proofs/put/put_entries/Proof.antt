@@ -16,8 +16,6 @@ use Rattle.file.specs.Pen.{Ready, Put}
 use Rattle.file.proofs.Pen.{Left, left-start, left-ready, left-step, left-end}
 use Rattle.file.proofs.put.put_entries.Statement.{statement}
 use Rattle.file.proofs.put.put_entries.Tie as tie
-use Rattle.file.proofs.put.put_entries.Reads as reads
-use Rattle.file.proofs.put.put_entries.Lts as lts
 
 -- the fields left begin with those of the next element
 next : (l : List ℕ) (i : ℕ) → i < length l → entryFields (drop i l) ≡ entryFields (getD l i 0 ∷ []) ++ entryFields (drop (i + 1) l)

@@ -13,8 +13,6 @@ use Rattle.file.specs.Pen.{Ready, Put}
 use Rattle.file.proofs.Pen.{Left, left-start, next-ready, next-step, left-end}
 use Rattle.file.proofs.put.put_entry.Statement.{statement}
 use Rattle.file.proofs.put.put_entry.Tie as tie
-use Rattle.file.proofs.put.put_entry.Reads as reads
-use Rattle.file.proofs.put.put_entry.Lts as lts
 
 -- the two fields are still to be put
 begun : (c : tie.After-put-arg) →

@@ -12,8 +12,6 @@ use Rattle.file.specs.Pen.{Ready, Put}
 use Rattle.file.proofs.Pen.{Left, left-start, next-ready, next-step, left-end}
 use Rattle.file.proofs.put.put_header.Statement.{statement}
 use Rattle.file.proofs.put.put_header.Tie as tie
-use Rattle.file.proofs.put.put_header.Reads as reads
-use Rattle.file.proofs.put.put_header.Lts as lts
 
 -- what is still to be put before the first field, and after each of the next
 begun : (c : tie.After-put-arg) →

@@ -16,8 +16,6 @@ use Rattle.file.specs.Pen.{Ready, Put}
 use Rattle.file.proofs.Pen.{Left, left-start, left-ready, left-step, left-end}
 use Rattle.file.proofs.put.put_order.Statement.{statement}
 use Rattle.file.proofs.put.put_order.Tie as tie
-use Rattle.file.proofs.put.put_order.Reads as reads
-use Rattle.file.proofs.put.put_order.Lts as lts
 
 -- the fields left begin with those of the next element
 next : (l : List ℕ) (i : ℕ) → i < length l → orderFields (drop i l) ≡ (field (getD l i 0) 12 ∷ []) ++ orderFields (drop (i + 1) l)

@@ -14,8 +14,6 @@ use Rattle.file.specs.Pen.{Ready, Put}
 use Rattle.file.proofs.Pen.{Left, left-start, left-ready, left-step, next-ready, next-step, left-end}
 use Rattle.file.proofs.put.put_row.Statement.{statement}
 use Rattle.file.proofs.put.put_row.Tie as tie
-use Rattle.file.proofs.put.put_row.Reads as reads
-use Rattle.file.proofs.put.put_row.Lts as lts
 
 -- the part of the label room, as the row that it is
 used : (w : ℕ) (labels : List ℕ) (v count : ℕ) → take (v * w + count - v * w) (drop (v * w) labels) ≡ part w labels v count

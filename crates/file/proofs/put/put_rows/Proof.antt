@@ -15,8 +15,6 @@ use Rattle.file.specs.Pen.{Ready, Put, RowIn, RowsIn}
 use Rattle.file.proofs.Pen.{Left, left-start, left-ready, left-step, left-end}
 use Rattle.file.proofs.put.put_rows.Statement.{statement}
 use Rattle.file.proofs.put.put_rows.Tie as tie
-use Rattle.file.proofs.put.put_rows.Reads as reads
-use Rattle.file.proofs.put.put_rows.Lts as lts
 
 -- the rows left begin with that of v
 next : (w : ℕ) (labels counts : List ℕ) (n v : ℕ) → v < n →

@@ -1,10 +1,9 @@
 -- `links::once::each_once` meets its contract. The invariant: the frames seen are those that stand below rank r, and the
 -- lowest faulty rank lies from r on. A faulty rank ends the pass; a sound one adds its frame. n - r falls.
-use Prim.Native.Nat.{ℕ, _-_, _≤_, _<_}
-use mathlib.Core.Path.{_≡_, sym, _∙_}
+use Prim.Native.Nat.{_-_}
+use mathlib.Core.Path.{sym, _∙_}
 use native.Mathlib.Omega.{arith}
 use borrow.Author.Needs.{needs}
-use lib.ListN.{length, getD}
 use Rattle.links.proofs.Order.{Seen, seen-first, seen-stop, seen-twice, seen-on, seen-end, rank-out}
 use Rattle.links.proofs.once.each_once.Statement.{statement}
 use Rattle.links.proofs.once.each_once.Tie as tie
@@ -33,7 +32,7 @@ refused-requires c κs = search needs
 returns : tie.Need-returns Inv-loop μ-loop
 returns c =
     let at = c .before .before .before .before in
-    c .refused .ensures ∙ sym (seen-stop (at .loop .inv) (c .before .before .before .loop-test .taken) (rank-out _ _ _ (c .before .if1 .taken)))
+    c .refused .ensures ∙ sym (seen-stop (at .loop .inv) (c .before .before .before .loop-test .taken) (rank-out _ _ _ (omega arith)))
 
 array-read-if2 : tie.Need-array-read-if2 Inv-loop μ-loop
 array-read-if2 c = omega arith

@@ -1,10 +1,8 @@
 -- `links::scan::faulty` meets its contract: each return is one of the four parts of `faultyLink`, or none of them.
-use Prim.Native.Nat.{ℕ, _≤_}
-use mathlib.Core.Path.{_≡_, sym, _∙_}
+use mathlib.Core.Path.{sym, _∙_}
 use native.Mathlib.Omega.{arith}
 use borrow.Author.Needs.{needs}
-use lib.ListN.{length, getD}
-use Rattle.links.proofs.Links.{link-out, link-self, link-falls, link-alone, link-fine}
+use Rattle.links.proofs.Links.{list-in, link-out, link-self, link-falls, link-alone, link-fine}
 use Rattle.links.proofs.scan.faulty.Statement.{statement}
 use Rattle.links.proofs.scan.faulty.Tie as tie
 
@@ -30,7 +28,7 @@ returns-3 : tie.Need-returns-3
 returns-3 c = sym (link-falls _ _ _ _ _ (sym (c .before .not-above .ensures) ∙ c .if3 .taken))
 
 mirrored-requires : tie.Need-mirrored-requires
-mirrored-requires c κs = search needs
+mirrored-requires c κs = (list-in _ (c .before .before .before .before .before .before .before .before .before .pre .0) _ (c .before .before .before .before .if1 .left), omega arith)
 
 same-length : tie.Need-same-length
 same-length c = search needs

@@ -1,21 +1,14 @@
 -- `links::scan::mirrored` meets its contract. A guess inside w's list that holds v shows that the list holds v, whatever
 -- the cursor was; else the search of the list decides.
-use Prim.Native.Nat.{ℕ, _+_, _≤_}
-use mathlib.Core.Path.{_≡_, sym}
+use Prim.Native.Nat.{_+_}
+use mathlib.Core.Path.{sym}
 use native.Mathlib.Omega.{arith}
 use borrow.Author.Needs.{needs}
-use lib.ListN.{length, getD}
+use lib.ListN.{getD}
 use Rattle.basics.proofs.Laws.{found-low}
-use Rattle.links.proofs.Links.{list-within, holds-at, holds-found, holds-not}
+use Rattle.links.proofs.Links.{holds-at, holds-found, holds-not}
 use Rattle.links.proofs.scan.mirrored.Statement.{statement}
 use Rattle.links.proofs.scan.mirrored.Tie as tie
-
--- where w's list lies
-list-of : (s : tie.Start)
-    → (getD (s .args .starts .now) (s .args .w) 0 ≤ getD (s .args .starts .now) (s .args .w + 1) 0)
-    × (getD (s .args .starts .now) (s .args .w + 1) 0 ≤ length (s .args .places .now))
-    × (length (s .args .places .now) ≤ 65536)
-list-of s = list-within _ (s .pre .0) _ (s .pre .1)
 
 add-next : tie.Need-add-next
 add-next c = search needs
@@ -48,22 +41,22 @@ cast-passed : tie.Need-cast-passed
 cast-passed c = omega (arith, c .slice-known2 .given (c .before .before .before .before .before .before .args .w))
 
 add-guess : tie.Need-add-guess
-add-guess c = omega (arith, c .slice-known2 .given (c .before .before .before .before .before .before .args .w), list-of (c .before .before .before .before .before .before))
+add-guess c = omega (arith, c .slice-known2 .given (c .before .before .before .before .before .before .args .w))
 
 mul-u : tie.Need-mul-u
-mul-u c = omega (arith, list-of (c .before .before .before .before .before .before .before))
+mul-u c = omega arith
 
 shared-slice-read-u : tie.Need-shared-slice-read-u
-shared-slice-read-u c = omega (arith, list-of (c .before .before .before .before .before .before .before .before))
+shared-slice-read-u c = omega arith
 
 cast-u : tie.Need-cast-u
 cast-u c = omega (arith, c .shared-slice-known5 .given (getD (c .before .before .before .before .before .before .before .before .args .starts .now) (c .before .before .before .before .before .before .before .before .args .w) 0 + getD (c .before .before .before .before .before .before .before .before .args .cursors .now) (c .before .before .before .before .before .before .before .before .args .w) 0))
 
 add-cursors : tie.Need-add-cursors
-add-cursors c = omega (arith, list-of (c .before .before .before .before .before .before .before .before .before))
+add-cursors c = omega (arith, c .before .before .before .before .before .before .before .before .before .pre .0)
 
 cast-cursors : tie.Need-cast-cursors
-cast-cursors c = omega (arith, list-of (c .before .before .before .before .before .before .before .before .before))
+cast-cursors c = omega (arith, c .before .before .before .before .before .before .before .before .before .pre .0)
 
 mul-cursors : tie.Need-mul-cursors
 mul-cursors c = search needs
@@ -75,21 +68,19 @@ same-length : tie.Need-same-length
 same-length c = search needs
 
 returns : tie.Need-returns
-returns c =
-    let s = c .before .before .before .before .before .before .before .before .before in
-    sym (holds-at _ _ _ _ _ (omega arith) (c .before .before .if1 .taken) (c .if2 .taken))
+returns c = sym (holds-at _ _ _ _ _ (omega arith) (c .before .before .if1 .taken) (c .if2 .taken))
 
 find-requires : tie.Need-find-requires
-find-requires c κs = let within = list-of (c .before .before .before .before .before .before .before) in (within .0, within .1)
+find-requires c κs = let list = c .before .before .before .before .before .before .before .pre .0 in (list .rise, list .within)
 
 sub-cursors : tie.Need-sub-cursors
 sub-cursors c = found-low _ _ _ (c .before .find .ensures)
 
 add-cursors-2 : tie.Need-add-cursors-2
-add-cursors-2 c = omega (arith, list-of (c .before .before .before .before .before .before .before .before .before))
+add-cursors-2 c = omega (arith, c .before .before .before .before .before .before .before .before .before .pre .0)
 
 cast-cursors-2 : tie.Need-cast-cursors-2
-cast-cursors-2 c = omega (arith, list-of (c .before .before .before .before .before .before .before .before .before))
+cast-cursors-2 c = omega (arith, c .before .before .before .before .before .before .before .before .before .pre .0)
 
 mul-cursors-2 : tie.Need-mul-cursors-2
 mul-cursors-2 c = search needs
@@ -101,14 +92,10 @@ same-length-2 : tie.Need-same-length-2
 same-length-2 c = search needs
 
 returns-2 : tie.Need-returns-2
-returns-2 c =
-    let within = list-of (c .before .before .before .before .before .before .before .before .before) in
-    sym (holds-found _ _ _ _ _ (within .0) (c .before .find .ensures) (c .if3 .taken))
+returns-2 c = sym (holds-found _ _ _ _ _ (c .before .before .before .before .before .before .before .before .before .pre .0 .rise) (c .before .find .ensures) (c .if3 .taken))
 
 returns-3 : tie.Need-returns-3
-returns-3 c =
-    let within = list-of (c .before .before .before .before .before .before .before .before .before) in
-    sym (holds-not _ _ _ _ _ (within .0) (c .before .find .ensures) (c .if3 .left))
+returns-3 c = sym (holds-not _ _ _ _ _ (c .before .before .before .before .before .before .before .before .before .pre .0 .rise) (c .before .find .ensures) (c .if3 .left))
 
 pub mirrored-spec : {M : Type 1} → statement M
 mirrored-spec =

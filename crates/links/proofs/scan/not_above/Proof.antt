@@ -1,11 +1,8 @@
 -- `links::scan::not_above` meets its contract: the two tests are those of `notAbove`.
-use mathlib.Core.Path.{_≡_, refl, sym, ap, _∙_}
-use mathlib.Core.Bool.{Bool, _&&_}
+use mathlib.Core.Path.{refl}
 use native.Mathlib.Omega.{arith}
 use borrow.Author.Needs.{needs}
 use borrow.Author.Tests.{lt-ltb, le-ltb}
-use lib.ListN.{getD}
-use lib.Dec.{leb}
 use Rattle.links.proofs.scan.not_above.Statement.{statement}
 use Rattle.links.proofs.scan.not_above.Tie as tie
 

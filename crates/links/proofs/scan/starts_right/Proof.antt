@@ -1,11 +1,10 @@
 -- `links::scan::starts_right` meets its contract. The invariant: no start position up to v falls, so that whether one
 -- falls is decided from v on. n - v falls.
-use Prim.Native.Nat.{ℕ, _+_, _-_, _≤_}
+use Prim.Native.Nat.{_-_, _≤_}
 use mathlib.Core.Path.{_≡_, refl, sym, _∙_}
 use native.Mathlib.Omega.{arith}
 use native.Mathlib.Nat.{sub-zero}
 use borrow.Author.Tests.{lt-ltb, le-ltb}
-use lib.ListN.{getD}
 use Rattle.basics.specs.Places.{some}
 use Rattle.basics.proofs.Laws.{some-here, some-step, some-over}
 use Rattle.links.specs.Links.{falls}

@@ -1,5 +1,5 @@
 -- `links::scan::tests` meets its contract: each return is the first of tests 3 and 4 that fails, or none.
-use mathlib.Core.Path.{_≡_, sym, _∙_}
+use mathlib.Core.Path.{sym, _∙_}
 use borrow.Author.Needs.{needs}
 use Rattle.links.proofs.Links.{starts-kept, tests-starts, tests-lists, tests-fine}
 use Rattle.links.proofs.scan.tests.Statement.{statement}

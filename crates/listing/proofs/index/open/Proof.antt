@@ -39,7 +39,7 @@ returns c =
     let answer : _ = c .before .before .before .before .before .enum-told .given .1 in
     (subst (λ (t : List ℕ). Put (start .args .out .now) 0 t (c .before .before .refused .last .0) (c .before .before .refused .result))
     (ap refusedText (c .before .before .before .number-of .ensures ∙ ap numberOf answer)
-    ∙ header-refused (start .args .bytes .now) (c .before .before .before .before .before .before .before .header .ensures) answer)
+    ∙ header-refused (start .args .bytes .now) (c .before .before .before .before .before .before .before .header .ensures .0) answer)
     (c .before .before .refused .ensures .0),
     omega (arith, c .before .before .refused .ensures .1))
 
@@ -53,7 +53,7 @@ returns-2 : tie.Need-returns-2
 returns-2 c = 
     let start : _ = c .before .before .before .before .before .before .before .before .before .before .before .before .before .before in
     (subst (λ (t : List ℕ). Put (start .args .out .now) 0 t (c .before .before .refused2 .last .0) (c .before .before .refused2 .result))
-    (over-frames (start .args .bytes .now) (c .before .before .before .before .before .before .before .before .header .ensures) (c .before .before .before .before .before .before .opened .given .1) (c .before .before .before .before .if1 .taken))
+    (over-frames (start .args .bytes .now) (c .before .before .before .before .before .before .before .before .header .ensures .0) (c .before .before .before .before .before .before .opened .given .1) (c .before .before .before .before .if1 .taken))
     (c .before .before .refused2 .ensures .0),
     omega (arith, c .before .before .refused2 .ensures .1))
 
@@ -102,7 +102,7 @@ returns-3 c =
     let most : _ = c .before .before .before .before .before .before .before .before .before .before .before .before .before .if1 .left in
     (subst (λ (t : List ℕ). Put (start .args .out .now) 0 t (c .before .before .before .before .before .before .before .before .read .last .1 .1 .1 .1 .0) (c .before .before .before .before .before .before .before .before .read .result))
     (cut-text (c .before .before .before .before .before .before .before .before .before .before .before .before .before .before .before .opened .given .0 .0) (start .args .order .now) (start .args .labels .now) (start .args .counts .now) most (start .pre .0 .0) (start .pre .0 .1) (start .pre .0 .2) (start .args .bytes .now)
-    ∙ within-frames (start .args .bytes .now) (c .before .before .before .before .before .before .before .before .before .before .before .before .before .before .before .before .before .header .ensures) (c .before .before .before .before .before .before .before .before .before .before .before .before .before .before .before .opened .given .1) most)
+    ∙ within-frames (start .args .bytes .now) (c .before .before .before .before .before .before .before .before .before .before .before .before .before .before .before .before .before .header .ensures .0) (c .before .before .before .before .before .before .before .before .before .before .before .before .before .before .before .opened .given .1) most)
     (c .before .before .before .before .before .before .before .before .read .ensures .0),
     c .before .before .before .before .before .before .before .before .read .ensures .1)
 
