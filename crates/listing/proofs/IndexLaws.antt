@@ -42,15 +42,15 @@ shown-by n spread {order} {labels} {counts} e cut =
     then-fine _ _ fine in
     let rooms : Rooms n WIDTH labels counts = fine-rooms n WIDTH labels counts (both .0) in
     let all : first (λ u. not (soundRow n n WIDTH labels counts u)) 0 n ≡ n = eqb-true _ _ (test-held _ _ _ (both .1)) in
-    record
-    { frames = cut .frames
-    ; ordered = cut .ordered
-    ; places = cut .places
-    ; sound =
-        λ v inside.
-        subst (λ (m : ℕ). soundRow m m WIDTH labels counts v ≡ true) (sym (rooms .each))
-        (of-not-false _
-        (first-before (λ u. not (soundRow n n WIDTH labels counts u)) 0 n v (omega arith) (omega (arith, all, rooms .each))))
+    record {
+      frames = cut .frames;
+      ordered = cut .ordered;
+      places = cut .places;
+      sound =
+          λ v inside.
+          subst (λ (m : ℕ). soundRow m m WIDTH labels counts v ≡ true) (sym (rooms .each))
+          (of-not-false _
+          (first-before (λ u. not (soundRow n n WIDTH labels counts u)) 0 n v (omega arith) (omega (arith, all, rooms .each))));
     }
 
 pub text-shown : {a : SpreadAnswer} {spread : ℕ} (n k : ℕ) (order labels counts : List ℕ) → a ≡ SpreadAnswer.Spread spread
@@ -157,10 +157,10 @@ module _ (n : ℕ) (order labels counts : List ℕ) (most : n ≤ MOST) (o : len
 
   pub cut-rooms : Cut (take n order) (take (n * WIDTH) labels) (take n counts)
   cut-rooms =
-      record
-      { frames = omega (arith, cut-counts)
-      ; ordered = cut-order ∙ sym cut-counts
-      ; places = cut-labels ∙ ap (λ (k : ℕ). k * WIDTH) (sym cut-counts)
+      record {
+        frames = omega (arith, cut-counts);
+        ordered = cut-order ∙ sym cut-counts;
+        places = cut-labels ∙ ap (λ (k : ℕ). k * WIDTH) (sym cut-counts);
       }
 
   pub cut-text : (s : List ℕ)

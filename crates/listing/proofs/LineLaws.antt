@@ -81,13 +81,13 @@ put-line {room} {last = last} {at} {end = end} order labels counts v p q =
 module _ {order labels counts : List ℕ} (s : Shown order labels counts) (v : ℕ) (h : v < length counts) where
   rooms : Rooms (length counts) WIDTH labels counts
   rooms =
-      record
-      { some-frames = omega arith
-      ; frames = omega (arith, s .frames)
-      ; some-width = omega arith
-      ; width = omega arith
-      ; places = s .places
-      ; each = refl
+      record {
+        some-frames = omega arith;
+        frames = omega (arith, s .frames);
+        some-width = omega arith;
+        width = omega arith;
+        places = s .places;
+        each = refl;
       }
 
   sound : (getD counts v 0 ≤ WIDTH) × Sound (length counts) (length counts) (rowAt WIDTH labels counts v) (getD counts v 0)

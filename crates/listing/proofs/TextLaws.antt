@@ -30,10 +30,10 @@ put-byte room at b h =
 pub put-more : {room mid last s t : List ℕ} {at next end : ℕ} → Put room at s mid next → Put mid next t last end
     → Put room at (s ++ t) last end
 put-more {room} {mid} {last} {s} {t} {at} {next} {end} p q =
-    record
-    { long = q .long ∙ p .long
-    ; ends = q .ends ∙ (ap (λ (k : ℕ). k + length t) (p .ends) ∙ omega (arith, length-append s t))
-    ; holds = q .holds ∙ (ap (λ (l : List ℕ). l ++ t) (p .holds) ∙ append-assoc (take at room) s t)
+    record {
+      long = q .long ∙ p .long;
+      ends = q .ends ∙ (ap (λ (k : ℕ). k + length t) (p .ends) ∙ omega (arith, length-append s t));
+      holds = q .holds ∙ (ap (λ (l : List ℕ). l ++ t) (p .holds) ∙ append-assoc (take at room) s t);
     }
 
 -- one byte more of a text
@@ -52,9 +52,9 @@ pub few-places : (x k : ℕ) → x < 18446744073709551616 → Fewest 10 1 x k �
 few-places x k small few =
     lt-or-ge 20 k
     (λ more.
-        let high : 10 ^ (k - 1) ≤ x = few .2 (omega arith) in
-        let less : 10 ^ 20 ≤ 10 ^ (k - 1) = pow-le-pow-right {n = 10} (omega arith) {i = 20} {j = k - 1} (omega arith) in
-        absurd (omega arith))
+    let high : 10 ^ (k - 1) ≤ x = few .2 (omega arith) in
+    let less : 10 ^ 20 ≤ 10 ^ (k - 1) = pow-le-pow-right {n = 10} (omega arith) {i = 20} {j = k - 1} (omega arith) in
+    absurd (omega arith))
     (λ most. most)
 
 -- the fewest digits that hold a number are as many as it has
@@ -63,10 +63,10 @@ unfolding places
 places-is x k most few =
     first-is (λ j. ltb x (10 ^ j)) 1 20 k (few .0) (omega arith) (lt-ltb x (10 ^ k) (few .1))
     (λ j low below.
-        le-ltb x (10 ^ j)
-        (let high : 10 ^ (k - 1) ≤ x = few .2 (omega arith) in
-        let less : 10 ^ j ≤ 10 ^ (k - 1) = pow-le-pow-right (omega arith) (omega arith) in
-        omega arith))
+    le-ltb x (10 ^ j)
+    (let high : 10 ^ (k - 1) ≤ x = few .2 (omega arith) in
+    let less : 10 ^ j ≤ 10 ^ (k - 1) = pow-le-pow-right (omega arith) (omega arith) in
+    omega arith))
 
 -- those digits are the number in decimal
 pub decimal-is : (x k : ℕ) → k ≤ 20 → Fewest 10 1 x k → digits 10 k x ≡ decimal x

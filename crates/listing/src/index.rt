@@ -47,7 +47,13 @@ pub fn open(
         return lines::refused(out, SIZE);
     }
     let places = n * WIDTH;
-    read(bytes, &mut order[..n], &mut labels[..places], &mut counts[..n], out)
+    read(
+        bytes,
+        &mut order[..n],
+        &mut labels[..places],
+        &mut counts[..n],
+        out,
+    )
 }
 
 // The text of a file whose header gives as many frames as the rooms are for.

@@ -21,7 +21,7 @@ open-requires : tie.Need-open-requires
 open-requires c κs = search needs
 
 returns : tie.Need-returns
-returns c = 
+returns c =
     let inside : c .before .before .before .«open» .result ≤ length (c .before .before .before .«open» .last .1 .1 .1 .1 .0) =
     omega (arith, c .before .before .before .«open» .ensures .1, c .before .before .before .«open» .ensures .0 .long) in
     ((inside, sym (length-take-le _ _ inside)), c .before .before .before .«open» .ensures .0 .holds)

@@ -34,14 +34,15 @@ same-length c = search needs
 
 returns : tie.Need-returns
 unfolding numberOf
-returns c = 
+returns c =
     let start : _ = c .before .before .before .before .before .before .before .before .before .before .before .before .before in
-    let answer : _ = c .before .before .before .before .before .enum-told .given .1 in
-    (subst (λ (t : List ℕ). Put (start .args .out .now) 0 t (c .before .before .refused .last .0) (c .before .before .refused .result))
-    (ap refusedText (c .before .before .before .number-of .ensures ∙ ap numberOf answer)
-    ∙ header-refused (start .args .bytes .now) (c .before .before .before .before .before .before .before .header .ensures .0) answer)
-    (c .before .before .refused .ensures .0),
-    omega (arith, c .before .before .refused .ensures .1))
+    let answer : _ = c .before .before .before .before .before .enum-told .given .1 in (
+      subst (λ (t : List ℕ). Put (start .args .out .now) 0 t (c .before .before .refused .last .0) (c .before .before .refused .result))
+          (ap refusedText (c .before .before .before .number-of .ensures ∙ ap numberOf answer)
+          ∙ header-refused (start .args .bytes .now) (c .before .before .before .before .before .before .before .header .ensures .0) answer)
+          (c .before .before .refused .ensures .0),
+      omega (arith, c .before .before .refused .ensures .1),
+    )
 
 refused-requires-2 : tie.Need-refused-requires-2
 refused-requires-2 c κs = search needs
@@ -50,12 +51,13 @@ same-length-2 : tie.Need-same-length-2
 same-length-2 c = search needs
 
 returns-2 : tie.Need-returns-2
-returns-2 c = 
-    let start : _ = c .before .before .before .before .before .before .before .before .before .before .before .before .before .before in
-    (subst (λ (t : List ℕ). Put (start .args .out .now) 0 t (c .before .before .refused2 .last .0) (c .before .before .refused2 .result))
-    (over-frames (start .args .bytes .now) (c .before .before .before .before .before .before .before .before .header .ensures .0) (c .before .before .before .before .before .before .opened .given .1) (c .before .before .before .before .if1 .taken))
-    (c .before .before .refused2 .ensures .0),
-    omega (arith, c .before .before .refused2 .ensures .1))
+returns-2 c =
+    let start : _ = c .before .before .before .before .before .before .before .before .before .before .before .before .before .before in (
+      subst (λ (t : List ℕ). Put (start .args .out .now) 0 t (c .before .before .refused2 .last .0) (c .before .before .refused2 .result))
+          (over-frames (start .args .bytes .now) (c .before .before .before .before .before .before .before .before .header .ensures .0) (c .before .before .before .before .before .before .opened .given .1) (c .before .before .before .before .if1 .taken))
+          (c .before .before .refused2 .ensures .0),
+      omega (arith, c .before .before .refused2 .ensures .1),
+    )
 
 mul-places : tie.Need-mul-places
 mul-places c = search needs
@@ -80,9 +82,10 @@ slice-aggregate-read-3 c = sym (length-take-le _ _ (search needs))
 
 read-requires : tie.Need-read-requires
 read-requires c κs =
-    let start : _ = c .before .before .before .before .before .before .before .before .before .before .before .before .before .before in
-    (cut-rooms (c .before .before .before .before .before .before .opened .given .0 .0) (start .args .order .now) (start .args .labels .now) (start .args .counts .now) (c .before .before .before .before .if1 .left) (start .pre .0 .0) (start .pre .0 .1) (start .pre .0 .2),
-    start .pre .1)
+    let start : _ = c .before .before .before .before .before .before .before .before .before .before .before .before .before .before in (
+      cut-rooms (c .before .before .before .before .before .before .opened .given .0 .0) (start .args .order .now) (start .args .labels .now) (start .args .counts .now) (c .before .before .before .before .if1 .left) (start .pre .0 .0) (start .pre .0 .1) (start .pre .0 .2),
+      start .pre .1,
+    )
 
 same-length-3 : tie.Need-same-length-3
 same-length-3 c = search needs
@@ -99,12 +102,13 @@ same-length-6 c = search needs
 returns-3 : tie.Need-returns-3
 returns-3 c =
     let start : _ = c .before .before .before .before .before .before .before .before .before .before .before .before .before .before .before .before .before .before .before .before .before .before .before in
-    let most : _ = c .before .before .before .before .before .before .before .before .before .before .before .before .before .if1 .left in
-    (subst (λ (t : List ℕ). Put (start .args .out .now) 0 t (c .before .before .before .before .before .before .before .before .read .last .1 .1 .1 .1 .0) (c .before .before .before .before .before .before .before .before .read .result))
-    (cut-text (c .before .before .before .before .before .before .before .before .before .before .before .before .before .before .before .opened .given .0 .0) (start .args .order .now) (start .args .labels .now) (start .args .counts .now) most (start .pre .0 .0) (start .pre .0 .1) (start .pre .0 .2) (start .args .bytes .now)
-    ∙ within-frames (start .args .bytes .now) (c .before .before .before .before .before .before .before .before .before .before .before .before .before .before .before .before .before .header .ensures .0) (c .before .before .before .before .before .before .before .before .before .before .before .before .before .before .before .opened .given .1) most)
-    (c .before .before .before .before .before .before .before .before .read .ensures .0),
-    c .before .before .before .before .before .before .before .before .read .ensures .1)
+    let most : _ = c .before .before .before .before .before .before .before .before .before .before .before .before .before .if1 .left in (
+      subst (λ (t : List ℕ). Put (start .args .out .now) 0 t (c .before .before .before .before .before .before .before .before .read .last .1 .1 .1 .1 .0) (c .before .before .before .before .before .before .before .before .read .result))
+          (cut-text (c .before .before .before .before .before .before .before .before .before .before .before .before .before .before .before .opened .given .0 .0) (start .args .order .now) (start .args .labels .now) (start .args .counts .now) most (start .pre .0 .0) (start .pre .0 .1) (start .pre .0 .2) (start .args .bytes .now)
+          ∙ within-frames (start .args .bytes .now) (c .before .before .before .before .before .before .before .before .before .before .before .before .before .before .before .before .before .header .ensures .0) (c .before .before .before .before .before .before .before .before .before .before .before .before .before .before .before .opened .given .1) most)
+          (c .before .before .before .before .before .before .before .before .read .ensures .0),
+      c .before .before .before .before .before .before .before .before .read .ensures .1,
+    )
 
 pub open-spec : {M : Type 1} → statement M
 open-spec =

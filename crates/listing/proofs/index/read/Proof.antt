@@ -40,14 +40,15 @@ same-length-4 c = search needs
 
 returns : tie.Need-returns
 unfolding numberOf
-returns c = 
+returns c =
     let start : _ = c .before .before .before .before .before .before .before .before .before .before .before .before .before .before .before .before .before .before .before .before .before .before in
-    let answer : _ = c .before .before .before .before .before .enum-told .given .1 in
-    (subst (λ (t : List ℕ). Put (start .args .out .now) 0 t (c .before .before .refused .last .0) (c .before .before .refused .result))
-    (ap refusedText (c .before .before .before .number-of .ensures ∙ ap numberOf answer)
-    ∙ read-refused (start .args .bytes .now) (start .args .order .now) (start .args .labels .now) (start .args .counts .now) (c .before .before .before .before .before .before .before .before .before .before .before .before .before .read .ensures .0) answer)
-    (c .before .before .refused .ensures .0),
-    omega (arith, c .before .before .refused .ensures .1))
+    let answer : _ = c .before .before .before .before .before .enum-told .given .1 in (
+      subst (λ (t : List ℕ). Put (start .args .out .now) 0 t (c .before .before .refused .last .0) (c .before .before .refused .result))
+          (ap refusedText (c .before .before .before .number-of .ensures ∙ ap numberOf answer)
+          ∙ read-refused (start .args .bytes .now) (start .args .order .now) (start .args .labels .now) (start .args .counts .now) (c .before .before .before .before .before .before .before .before .before .before .before .before .before .read .ensures .0) answer)
+          (c .before .before .refused .ensures .0),
+      omega (arith, c .before .before .refused .ensures .1),
+    )
 
 show-requires : tie.Need-show-requires
 show-requires c κs = search needs
@@ -65,12 +66,13 @@ same-length-8 : tie.Need-same-length-8
 same-length-8 c = search needs
 
 returns-2 : tie.Need-returns-2
-returns-2 c = 
-    let start : _ = c .before .before .before .before .before .before .before .before .before .before .before .before .before .before .before .before .before .before .before .before .before .before .before .before .before in
-    (subst (λ (t : List ℕ). Put (start .args .out .now) 0 t (c .before .before .show .last .1 .1 .1 .1 .1 .0) (c .before .before .show .result))
-    (read-index (start .args .bytes .now) (start .args .order .now) (start .args .labels .now) (start .args .counts .now) (c .before .before .before .before .before .before .before .before .before .before .before .before .before .before .before .before .read .ensures .0) (c .before .before .before .before .before .before .before .before .opened .given .1))
-    (c .before .before .show .ensures .0),
-    c .before .before .show .ensures .1)
+returns-2 c =
+    let start : _ = c .before .before .before .before .before .before .before .before .before .before .before .before .before .before .before .before .before .before .before .before .before .before .before .before .before in (
+      subst (λ (t : List ℕ). Put (start .args .out .now) 0 t (c .before .before .show .last .1 .1 .1 .1 .1 .0) (c .before .before .show .result))
+          (read-index (start .args .bytes .now) (start .args .order .now) (start .args .labels .now) (start .args .counts .now) (c .before .before .before .before .before .before .before .before .before .before .before .before .before .before .before .before .read .ensures .0) (c .before .before .before .before .before .before .before .before .opened .given .1))
+          (c .before .before .show .ensures .0),
+      c .before .before .show .ensures .1,
+    )
 
 pub read-spec : {M : Type 1} → statement M
 read-spec =

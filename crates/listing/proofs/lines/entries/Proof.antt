@@ -39,20 +39,22 @@ loop-less : tie.Need-loop-less Inv-loop μ-loop
 loop-less c = omega arith
 
 loop-again : tie.Need-loop-again Inv-loop μ-loop
-loop-again c = 
-    (omega arith,
-    put-entry (c .before .before .before .before .before .before .before .before .before .before .args .order .now) (c .before .before .before .before .before .before .before .before .before .before .args .row .now) (c .before .before .before .before .before .before .loop .i) (omega arith) (c .before .before .before .before .before .before .loop .inv .1) (c .before .before .entry .ensures .0),
-    omega (arith, c .before .before .entry .ensures .1, c .before .before .before .before .before .before .loop .inv .2))
+loop-again c = (
+  omega arith,
+  put-entry (c .before .before .before .before .before .before .before .before .before .before .args .order .now) (c .before .before .before .before .before .before .before .before .before .before .args .row .now) (c .before .before .before .before .before .before .loop .i) (omega arith) (c .before .before .before .before .before .before .loop .inv .1) (c .before .before .entry .ensures .0),
+  omega (arith, c .before .before .entry .ensures .1, c .before .before .before .before .before .before .loop .inv .2),
+)
 
 same-length : tie.Need-same-length Inv-loop μ-loop
 same-length c = c .before .loop .inv .1 .long
 
 returns : tie.Need-returns Inv-loop μ-loop
-returns c = 
-    (subst (λ (t : List ℕ). Put (c .before .before .before .before .before .args .out .now) (c .before .before .before .before .before .args .at) t (c .before .loop .out) (c .before .loop .end))
-    (ap (entriesText (c .before .before .before .before .before .args .order .now)) (take-all (c .before .loop .i) (c .before .before .before .before .before .args .row .now) (omega arith)))
-    (c .before .loop .inv .1),
-    omega arith)
+returns c = (
+  subst (λ (t : List ℕ). Put (c .before .before .before .before .before .args .out .now) (c .before .before .before .before .before .args .at) t (c .before .loop .out) (c .before .loop .end))
+      (ap (entriesText (c .before .before .before .before .before .args .order .now)) (take-all (c .before .loop .i) (c .before .before .before .before .before .args .row .now) (omega arith)))
+      (c .before .loop .inv .1),
+  omega arith,
+)
 
 pub entries-spec : {M : Type 1} → statement M
 entries-spec =

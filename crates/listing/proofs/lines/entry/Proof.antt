@@ -38,11 +38,12 @@ same-length c = search needs
 
 returns : tie.Need-returns
 unfolding entryText
-returns c = 
-    (rw (← c .before .before .before .before .before .before .before .before .before .before .before .before .before .before .before .before .before .before .rank-of .ensures, ← c .before .before .before .before .before .before .before .before .before .before .before .before .before .before .before .before .joins-of .ensures)
-    (put-more (put-more (c .before .before .before .before .before .before .before .before .before .before .before .before .before .before .byte .ensures) (c .before .before .before .before .before .before .before .before .before .before .number .ensures .0))
-    (put-more (c .before .before .before .before .before .before .byte2 .ensures) (c .before .before .number2 .ensures .0))),
-    omega (arith, c .before .before .before .before .before .before .before .before .before .before .before .before .before .before .byte .ensures .ends, c .before .before .before .before .before .before .byte2 .ensures .ends))
+returns c = (
+  rw (← c .before .before .before .before .before .before .before .before .before .before .before .before .before .before .before .before .before .before .rank-of .ensures, ← c .before .before .before .before .before .before .before .before .before .before .before .before .before .before .before .before .joins-of .ensures)
+      (put-more (put-more (c .before .before .before .before .before .before .before .before .before .before .before .before .before .before .byte .ensures) (c .before .before .before .before .before .before .before .before .before .before .number .ensures .0))
+      (put-more (c .before .before .before .before .before .before .byte2 .ensures) (c .before .before .number2 .ensures .0))),
+  omega (arith, c .before .before .before .before .before .before .before .before .before .before .before .before .before .before .byte .ensures .ends, c .before .before .before .before .before .before .byte2 .ensures .ends),
+)
 
 pub entry-spec : {M : Type 1} → statement M
 entry-spec =

@@ -38,11 +38,12 @@ same-length c = search needs
 
 returns : tie.Need-returns
 unfolding headText
-returns c = 
-    (put-more (c .before .before .before .before .before .before .before .before .before .before .before .before .before .before .before .before .before .before .before .before .before .figure .ensures .0)
-    (put-more (c .before .before .before .before .before .before .before .before .before .before .before .before .before .before .before .before .figure2 .ensures .0)
-    (put-more (c .before .before .before .before .before .before .before .before .before .before .before .figure3 .ensures .0) (put-more (c .before .before .before .before .before .before .figure4 .ensures .0) (c .before .before .byte .ensures)))),
-    omega (arith, c .before .before .byte .ensures .ends))
+returns c = (
+  put-more (c .before .before .before .before .before .before .before .before .before .before .before .before .before .before .before .before .before .before .before .before .before .figure .ensures .0)
+      (put-more (c .before .before .before .before .before .before .before .before .before .before .before .before .before .before .before .before .figure2 .ensures .0)
+      (put-more (c .before .before .before .before .before .before .before .before .before .before .before .figure3 .ensures .0) (put-more (c .before .before .before .before .before .before .figure4 .ensures .0) (c .before .before .byte .ensures)))),
+  omega (arith, c .before .before .byte .ensures .ends),
+)
 
 pub head-spec : {M : Type 1} → statement M
 head-spec =

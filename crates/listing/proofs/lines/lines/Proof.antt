@@ -41,15 +41,16 @@ row-part-requires : tie.Need-row-part-requires Inv-loop μ-loop
 row-part-requires c κs = tt
 
 line-requires : tie.Need-line-requires Inv-loop μ-loop
-line-requires c κs = 
+line-requires c κs =
     let v : ℕ = c .before .before .before .before .loop .v in
     let inside : v < length (c .before .before .before .before .before .before .before .before .before .args .counts .now) = omega arith in
     let same : now (c .before .row-part .result) ≡ rowAt WIDTH (c .before .before .before .before .before .before .before .before .before .args .labels .now) (c .before .before .before .before .before .before .before .before .before .args .counts .now) v =
-    c .before .row-part .ensures .0 ∙ shown-row (c .before .before .before .before .before .before .before .before .before .pre .0) v inside in
-    (omega (arith, ap length same, shown-few (c .before .before .before .before .before .before .before .before .before .pre .0) v inside, c .before .before .before .before .loop .inv .1 .long, c .before .before .before .before .loop .inv .2, c .before .before .before .before .before .before .before .before .before .pre .1),
-    λ i k.
-        subst (λ (row : List ℕ). rankOf (getD row i 0) < length (c .before .before .before .before .before .before .before .before .before .args .order .now)) (sym same)
-        (shown-ranks (c .before .before .before .before .before .before .before .before .before .pre .0) v inside i (subst (λ (row : List ℕ). i < length row) same k)))
+    c .before .row-part .ensures .0 ∙ shown-row (c .before .before .before .before .before .before .before .before .before .pre .0) v inside in (
+      omega (arith, ap length same, shown-few (c .before .before .before .before .before .before .before .before .before .pre .0) v inside, c .before .before .before .before .loop .inv .1 .long, c .before .before .before .before .loop .inv .2, c .before .before .before .before .before .before .before .before .before .pre .1),
+      λ i k.
+          subst (λ (row : List ℕ). rankOf (getD row i 0) < length (c .before .before .before .before .before .before .before .before .before .args .order .now)) (sym same)
+          (shown-ranks (c .before .before .before .before .before .before .before .before .before .pre .0) v inside i (subst (λ (row : List ℕ). i < length row) same k)),
+    )
 
 add-v : tie.Need-add-v Inv-loop μ-loop
 add-v c = omega arith
@@ -58,26 +59,28 @@ loop-less : tie.Need-loop-less Inv-loop μ-loop
 loop-less c = omega arith
 
 loop-again : tie.Need-loop-again Inv-loop μ-loop
-loop-again c = 
+loop-again c =
     let v : ℕ = c .before .before .before .before .before .before .before .loop .v in
     let inside : v < length (c .before .before .before .before .before .before .before .before .before .before .before .before .args .counts .now) = omega arith in
     let same : now (c .before .before .before .before .row-part .result) ≡ rowAt WIDTH (c .before .before .before .before .before .before .before .before .before .before .before .before .args .labels .now) (c .before .before .before .before .before .before .before .before .before .before .before .before .args .counts .now) v =
-    c .before .before .before .before .row-part .ensures .0 ∙ shown-row (c .before .before .before .before .before .before .before .before .before .before .before .before .pre .0) v inside in
-    (omega arith,
-    put-line (c .before .before .before .before .before .before .before .before .before .before .before .before .args .order .now) (c .before .before .before .before .before .before .before .before .before .before .before .before .args .labels .now) (c .before .before .before .before .before .before .before .before .before .before .before .before .args .counts .now) v (c .before .before .before .before .before .before .before .loop .inv .1)
-    (subst (λ (row : List ℕ). Put (c .before .before .before .before .before .before .before .loop .out) (c .before .before .before .before .before .before .before .loop .end) (lineText (c .before .before .before .before .before .before .before .before .before .before .before .before .args .order .now) v row) (c .before .before .line .last .0) (c .before .before .line .result)) same
-    (c .before .before .line .ensures .0)),
-    omega (arith, ap length same, shown-few (c .before .before .before .before .before .before .before .before .before .before .before .before .pre .0) v inside, c .before .before .line .ensures .1, c .before .before .before .before .before .before .before .loop .inv .2))
+    c .before .before .before .before .row-part .ensures .0 ∙ shown-row (c .before .before .before .before .before .before .before .before .before .before .before .before .pre .0) v inside in (
+      omega arith,
+      put-line (c .before .before .before .before .before .before .before .before .before .before .before .before .args .order .now) (c .before .before .before .before .before .before .before .before .before .before .before .before .args .labels .now) (c .before .before .before .before .before .before .before .before .before .before .before .before .args .counts .now) v (c .before .before .before .before .before .before .before .loop .inv .1)
+          (subst (λ (row : List ℕ). Put (c .before .before .before .before .before .before .before .loop .out) (c .before .before .before .before .before .before .before .loop .end) (lineText (c .before .before .before .before .before .before .before .before .before .before .before .before .args .order .now) v row) (c .before .before .line .last .0) (c .before .before .line .result)) same
+          (c .before .before .line .ensures .0)),
+      omega (arith, ap length same, shown-few (c .before .before .before .before .before .before .before .before .before .before .before .before .pre .0) v inside, c .before .before .line .ensures .1, c .before .before .before .before .before .before .before .loop .inv .2),
+    )
 
 same-length : tie.Need-same-length Inv-loop μ-loop
 same-length c = c .before .loop .inv .1 .long
 
 returns : tie.Need-returns Inv-loop μ-loop
-returns c = 
-    let all : c .before .loop .v ≡ length (c .before .before .before .before .before .before .args .counts .now) = omega arith in
-    (subst (λ (k : ℕ). Put (c .before .before .before .before .before .before .args .out .now) (c .before .before .before .before .before .before .args .at) (linesText WIDTH (c .before .before .before .before .before .before .args .order .now) (c .before .before .before .before .before .before .args .labels .now) (c .before .before .before .before .before .before .args .counts .now) 0 k) (c .before .loop .out) (c .before .loop .end))
-    all (c .before .loop .inv .1),
-    omega arith)
+returns c =
+    let all : c .before .loop .v ≡ length (c .before .before .before .before .before .before .args .counts .now) = omega arith in (
+      subst (λ (k : ℕ). Put (c .before .before .before .before .before .before .args .out .now) (c .before .before .before .before .before .before .args .at) (linesText WIDTH (c .before .before .before .before .before .before .args .order .now) (c .before .before .before .before .before .before .args .labels .now) (c .before .before .before .before .before .before .args .counts .now) 0 k) (c .before .loop .out) (c .before .loop .end))
+          all (c .before .loop .inv .1),
+      omega arith,
+    )
 
 pub lines-spec : {M : Type 1} → statement M
 lines-spec =

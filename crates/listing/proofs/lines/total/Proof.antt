@@ -39,11 +39,12 @@ loop-less : tie.Need-loop-less Inv-loop μ-loop
 loop-less c = omega arith
 
 loop-again : tie.Need-loop-again Inv-loop μ-loop
-loop-again c = 
-    (omega arith,
-    ap (λ (s : ℕ). s + getD (c .before .before .before .args .counts .now) (c .before .before .loop .v) 0) (c .before .before .loop .inv .1)
-    ∙ sym (sum-next (c .before .before .before .args .counts .now) (c .before .before .loop .v) (omega arith)),
-    omega (arith, c .shared-slice-known .given (c .before .before .loop .v)))
+loop-again c = (
+  omega arith,
+  ap (λ (s : ℕ). s + getD (c .before .before .before .args .counts .now) (c .before .before .loop .v) 0) (c .before .before .loop .inv .1)
+      ∙ sym (sum-next (c .before .before .before .args .counts .now) (c .before .before .loop .v) (omega arith)),
+  omega (arith, c .shared-slice-known .given (c .before .before .loop .v)),
+)
 
 returns : tie.Need-returns Inv-loop μ-loop
 returns c = c .before .loop .inv .1 ∙ ap sum (take-all (c .before .loop .v) (c .before .before .args .counts .now) (omega arith))

@@ -13,10 +13,13 @@ use Rattle.listing.proofs.text.number.Tie as tie
 
 decimal-requires : tie.Need-decimal-requires
 decimal-requires c κs = search needs
+
 array-share-prefix-digits : tie.Need-array-share-prefix-digits
 array-share-prefix-digits c = search needs
+
 slice-aggregate-bytes : tie.Need-slice-aggregate-bytes
 slice-aggregate-bytes c = search needs
+
 bytes-requires : tie.Need-bytes-requires
 bytes-requires c κs =
     let call : _ = c .before .before .decimal in
@@ -25,6 +28,7 @@ bytes-requires c κs =
 
 same-length : tie.Need-same-length
 same-length c = search needs
+
 returns : tie.Need-returns
 returns c =
     let start : _ = c .before .before .before .before .before .before .before .before in
@@ -32,9 +36,10 @@ returns c =
     let done : _ = c .before .before .bytes in
     let most : call .result ≤ 20 = few-places (start .args .x) (call .result) (omega arith) (call .ensures .1 .0) in
     let spelt : take (call .result) (call .last .1 .0) ≡ decimal (start .args .x) =
-        call .ensures .1 .1 ∙ decimal-is (start .args .x) (call .result) most (call .ensures .1 .0) in
-    (subst (λ (t : List ℕ). Put (start .args .out .now) (start .args .at) t (done .last .0) (done .result)) spelt (done .ensures),
-    omega (arith, done .ensures .ends, length-take-le (call .result) (call .last .1 .0) (call .ensures .0 .0)))
+    call .ensures .1 .1 ∙ decimal-is (start .args .x) (call .result) most (call .ensures .1 .0) in (
+      subst (λ (t : List ℕ). Put (start .args .out .now) (start .args .at) t (done .last .0) (done .result)) spelt (done .ensures),
+      omega (arith, done .ensures .ends, length-take-le (call .result) (call .last .1 .0) (call .ensures .0 .0)),
+    )
 
 pub number-spec : {M : Type 1} → statement M
 number-spec =
