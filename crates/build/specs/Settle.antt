@@ -4,14 +4,22 @@ use Prim.Native.Nat.{ℕ, _-_, _*_, _≤_, _<_}
 use mathlib.Core.Path.{_≡_}
 use mathlib.Core.Bool.{Bool, true, cond, not, _&&_}
 use mathlib.Core.List.{List, [], _∷_, _++_}
-use lib.ListN.{length, getD}
+use lib.ListN.{length, getD, replicate}
 use lib.Dec.{leb, ltb}
 use Rattle.basics.specs.Places.{some}
+use Rattle.refusal.specs.Numbers.{ROOM, FAR}
+use Rattle.refusal.specs.Tests.{refusal}
+use Rattle.refusal.specs.declared.Verdict.{Verdict}
+use Rattle.refusal.specs.declared.Verdict.the-variants.{Fine, Refused}
+use Rattle.theory.specs.Distance.{far}
 use Rattle.theory.specs.Rows.{Row}
+use Rattle.theory.specs.Walk.{walkRow}
+use Rattle.theory.specs.Plain.{joined}
 use Rattle.rows.specs.Entry.{decode}
 use Rattle.rows.specs.Rooms.{rowAt}
 use Rattle.build.specs.Build.{labelsOf, countsOf}
-use Rattle.build.specs.Explore.{Queued}
+use Rattle.build.specs.Explore.{Queued, ExploreIn}
+use Rattle.build.specs.Walk.{levelOf, kept, walkFits}
 use Rattle.build.specs.declared.settle.Walked.{Walked}
 use Rattle.build.specs.declared.settle.Walked.the-variants.{Made, Full, Far}
 
@@ -74,12 +82,42 @@ settleOf w counts met =
     cond (fitsAll w counts met) near Full
 
 -- either the whole walk is made or rows and counts stay
-unfoldable pub labelsAfter : Walked → ℕ → ℕ → List ℕ → List ℕ → List ℕ → List ℕ
-labelsAfter Made w rank labels counts met = labelsOf (length met) w (rowsAfter w rank labels counts met)
-labelsAfter Full w rank labels counts met = labels
-labelsAfter Far w rank labels counts met = labels
+unfoldable pub ifMade : Walked → List ℕ → List ℕ → List ℕ
+ifMade Made after before = after
+ifMade Full after before = before
+ifMade Far after before = before
 
-unfoldable pub countsAfter : Walked → ℕ → ℕ → List ℕ → List ℕ → List ℕ → List ℕ
-countsAfter Made w rank labels counts met = countsOf (length met) (rowsAfter w rank labels counts met)
-countsAfter Full w rank labels counts met = counts
-countsAfter Far w rank labels counts met = counts
+-- One hub's walk over the rows so far, whatever they are, by levels: the rows after it
+unfoldable pub walkedRows : ℕ → ℕ → List ℕ → List ℕ → List ℕ → List ℕ → ℕ → ℕ → ℕ → Row
+walkedRows n w S L labels counts rank hub v = walkRow (far 1 n) n (joined S L) (rowsIn w labels counts) rank hub v
+
+-- the walk gives no frame over 4,095 joins
+unfoldable pub walkNear : ℕ → ℕ → List ℕ → List ℕ → List ℕ → List ℕ → ℕ → Bool
+walkNear n w S L labels counts hub =
+    not (some (λ v. kept n w S L labels counts hub v && ltb 4095 (levelOf n w S L labels counts hub v)) 0 n)
+
+-- the whole walk, or which of the two stands against it
+unfoldable pub walkOf : ℕ → ℕ → List ℕ → List ℕ → List ℕ → List ℕ → ℕ → Walked
+walkOf n w S L labels counts hub =
+    let near : Walked = cond (walkNear n w S L labels counts hub) Made Far in
+    cond (walkFits n w S L labels counts hub) near Full
+
+-- a block, sound rows that the rooms hold and nothing else, work rooms 0
+pub record WalkIn (n w : ℕ) (S L labels counts : List ℕ) (hub : ℕ) (met queue noted : List ℕ) : Type 0 where
+  pub ready : ExploreIn n w S L labels counts hub met queue noted
+  pub laid : Laid n w labels counts
+
+-- what the walk gives back, and the rooms after it; the work rooms are 0 either way
+pub record WalkOut (n w : ℕ) (S L labels counts : List ℕ) (rank hub : ℕ) (walked : Walked)
+    (labels-after counts-after met-after queue-after : List ℕ) : Type 0 where
+  pub answer : walked ≡ walkOf n w S L labels counts hub
+  pub rows : labels-after ≡ ifMade walked (labelsOf n w (walkedRows n w S L labels counts rank hub)) labels
+  pub numbers : counts-after ≡ ifMade walked (countsOf n (walkedRows n w S L labels counts rank hub)) counts
+  pub met-zero : met-after ≡ replicate n 0
+  pub queue-zero : queue-after ≡ replicate n 0
+
+-- what a walk of this rank makes of the build: ROOM at the rank, FAR at 0
+unfoldable pub verdictOf : Walked → ℕ → Verdict
+verdictOf Made rank = Fine
+verdictOf Full rank = Refused (refusal ROOM rank)
+verdictOf Far rank = Refused (refusal FAR 0)

@@ -7,8 +7,9 @@ ghost use mathlib.Core.Bool.{true, cond};
 ghost use Prim.Native.Nat.{_+_, _-_, _*_, _≤_, _<_};
 ghost use lib.ListN.{length, getD, set, replicate};
 ghost use Rattle.rows.specs.Entry.{entryOf};
+ghost use Rattle.build.specs.Build.{labelsOf, countsOf};
 ghost use Rattle.build.specs.Explore.{Queued};
-ghost use Rattle.build.specs.Settle.{isKept, lacksRoom, isFar, fitsAll, nearAll, GiveIn, SettleIn, settleOf, labelsAfter, countsAfter};
+ghost use Rattle.build.specs.Settle.{isKept, lacksRoom, isFar, fitsAll, nearAll, GiveIn, SettleIn, settleOf, rowsAfter, ifMade};
 
 // What became of a walk: made as a whole, or refused for room or for too many joins with nothing stored.
 pub enum Walked {
@@ -110,8 +111,8 @@ pub fn store(
     tail: usize,
 )
     requires { ⌜ SettleIn w rank (now labels) (now counts) (now met) (now queue) tail × (fitsAll w (now counts) (now met) ≡ true) ⌝ }
-    ensures { λ r. ⌜ now (labels .exit) ≡ labelsAfter Walked.Made w rank (now (labels .entry)) (now (counts .entry)) (now (met .entry)) ⌝ }
-    ensures { λ r. ⌜ now (counts .exit) ≡ countsAfter Walked.Made w rank (now (labels .entry)) (now (counts .entry)) (now (met .entry)) ⌝ }
+    ensures { λ r. ⌜ now (labels .exit) ≡ labelsOf (length (now (met .entry))) w (rowsAfter w rank (now (labels .entry)) (now (counts .entry)) (now (met .entry))) ⌝ }
+    ensures { λ r. ⌜ now (counts .exit) ≡ countsOf (length (now (met .entry))) (rowsAfter w rank (now (labels .entry)) (now (counts .entry)) (now (met .entry))) ⌝ }
 {
     let mut i = 0;
     while i < tail {
@@ -148,8 +149,8 @@ pub fn settle(
 ) -> Walked
     requires { ⌜ SettleIn w rank (now labels) (now counts) (now met) (now queue) tail ⌝ }
     ensures { λ r. ⌜ r ≡ settleOf w (now (counts .entry)) (now (met .entry)) ⌝ }
-    ensures { λ r. ⌜ now (labels .exit) ≡ labelsAfter r w rank (now (labels .entry)) (now (counts .entry)) (now (met .entry)) ⌝ }
-    ensures { λ r. ⌜ now (counts .exit) ≡ countsAfter r w rank (now (labels .entry)) (now (counts .entry)) (now (met .entry)) ⌝ }
+    ensures { λ r. ⌜ now (labels .exit) ≡ ifMade r (labelsOf (length (now (met .entry))) w (rowsAfter w rank (now (labels .entry)) (now (counts .entry)) (now (met .entry)))) (now (labels .entry)) ⌝ }
+    ensures { λ r. ⌜ now (counts .exit) ≡ ifMade r (countsOf (length (now (met .entry))) (rowsAfter w rank (now (labels .entry)) (now (counts .entry)) (now (met .entry)))) (now (counts .entry)) ⌝ }
 {
     let room = fits(w, counts, met, queue, tail);
     if room {

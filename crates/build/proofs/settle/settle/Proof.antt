@@ -3,7 +3,7 @@ use Prim.Native.Nat.{ℕ, _≤_, _<_}
 use mathlib.Core.Path.{_≡_, refl, sym, ap, _∙_}
 use borrow.Author.Needs.{needs}
 use lib.ListN.{length}
-use Rattle.build.specs.Settle.{labelsAfter, countsAfter}
+use Rattle.build.specs.Settle.{ifMade}
 use Rattle.build.proofs.RoomLaws.{length-counts}
 use Rattle.build.proofs.RoomMarks.{settle-made, settle-far, settle-full}
 use Rattle.build.proofs.settle.settle.Statement.{statement}
@@ -26,6 +26,7 @@ same-length-2 : tie.Need-same-length-2
 same-length-2 c = search needs
 
 returns : tie.Need-returns
+unfolding ifMade
 returns c = (
   sym
       (settle-made (c .before .before .before .before .before .before .before .before .before .before .before .before .before .before .before .before .args .w) (c .before .before .before .before .before .before .before .before .before .before .before .before .before .before .before .before .args .counts .now) (c .before .before .before .before .before .before .before .before .before .before .before .before .before .before .before .before .args .met .now) (sym (c .before .before .before .before .before .before .before .before .before .before .fits2 .ensures) ∙ c .before .before .before .before .before .before .before .before .before .if1 .taken)
@@ -37,7 +38,7 @@ same-length-3 : tie.Need-same-length-3
 same-length-3 c = search needs
 
 returns-2 : tie.Need-returns-2
-unfolding labelsAfter countsAfter
+unfolding ifMade
 returns-2 c = (
   sym
       (settle-far (c .before .before .before .before .before .before .before .before .before .args .w) (c .before .before .before .before .before .before .before .before .before .args .counts .now) (c .before .before .before .before .before .before .before .before .before .args .met .now) (sym (c .before .before .before .fits2 .ensures) ∙ c .before .before .if1 .taken)
@@ -49,7 +50,7 @@ same-length-4 : tie.Need-same-length-4
 same-length-4 c = search needs
 
 returns-3 : tie.Need-returns-3
-unfolding labelsAfter countsAfter
+unfolding ifMade
 returns-3 c = (
   sym (settle-full (c .before .before .before .before .before .before .before .args .w) (c .before .before .before .before .before .before .before .args .counts .now) (c .before .before .before .before .before .before .before .args .met .now) (sym (c .before .fits2 .ensures) ∙ c .if1 .left)),
   (refl, refl),
