@@ -9,7 +9,6 @@ mod random;
 mod room;
 mod say;
 mod search;
-mod stand;
 mod tally;
 
 fn main() {

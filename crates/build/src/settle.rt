@@ -7,8 +7,9 @@ ghost use mathlib.Core.Bool.{true, cond};
 ghost use Prim.Native.Nat.{_+_, _-_, _*_, _≤_, _<_};
 ghost use lib.ListN.{length, getD, set, replicate};
 ghost use Rattle.rows.specs.Entry.{entryOf};
+ghost use Rattle.build.specs.Build.{labelsOf, countsOf};
 ghost use Rattle.build.specs.Explore.{Queued};
-ghost use Rattle.build.specs.Settle.{isKept, lacksRoom, isFar, fitsAll, nearAll, GiveIn, SettleIn, settleOf, labelsAfter, countsAfter};
+ghost use Rattle.build.specs.Settle.{isKept, lacksRoom, isFar, fitsAll, noneFar, GiveIn, SettleIn, settleOf, rowsAfter, ifMade};
 
 // What became of a walk: made as a whole, or refused for room or for too many joins with nothing stored.
 pub enum Walked {
@@ -64,9 +65,9 @@ pub fn fits(w: usize, counts: &[u32], met: &[u32], queue: &[u32], tail: usize) -
 }
 
 // No kept frame has over 4,095 joins.
-pub fn near(met: &[u32], queue: &[u32], tail: usize) -> bool
+pub fn none_far(met: &[u32], queue: &[u32], tail: usize) -> bool
     requires { ⌜ Queued (now met) (now queue) tail ⌝ }
-    ensures { λ r. ⌜ r ≡ nearAll (now (met .entry)) ⌝ }
+    ensures { λ r. ⌜ r ≡ noneFar (now (met .entry)) ⌝ }
 {
     let mut i = 0;
     while i < tail {
@@ -109,9 +110,9 @@ pub fn store(
     queue: &[u32],
     tail: usize,
 )
-    requires { ⌜ SettleIn w rank (now labels) (now counts) (now met) (now queue) tail × (fitsAll w (now counts) (now met) ≡ true) ⌝ }
-    ensures { λ r. ⌜ now (labels .exit) ≡ labelsAfter Walked.Made w rank (now (labels .entry)) (now (counts .entry)) (now (met .entry)) ⌝ }
-    ensures { λ r. ⌜ now (counts .exit) ≡ countsAfter Walked.Made w rank (now (labels .entry)) (now (counts .entry)) (now (met .entry)) ⌝ }
+    requires { ⌜ SettleIn w (now labels) (now counts) (now met) (now queue) tail × (fitsAll w (now counts) (now met) ≡ true) ⌝ }
+    ensures { λ r. ⌜ now (labels .exit) ≡ labelsOf (length (now (met .entry))) w (rowsAfter w rank (now (labels .entry)) (now (counts .entry)) (now (met .entry))) ⌝ }
+    ensures { λ r. ⌜ now (counts .exit) ≡ countsOf (length (now (met .entry))) (rowsAfter w rank (now (labels .entry)) (now (counts .entry)) (now (met .entry))) ⌝ }
 {
     let mut i = 0;
     while i < tail {
@@ -146,14 +147,14 @@ pub fn settle(
     queue: &[u32],
     tail: usize,
 ) -> Walked
-    requires { ⌜ SettleIn w rank (now labels) (now counts) (now met) (now queue) tail ⌝ }
+    requires { ⌜ SettleIn w (now labels) (now counts) (now met) (now queue) tail ⌝ }
     ensures { λ r. ⌜ r ≡ settleOf w (now (counts .entry)) (now (met .entry)) ⌝ }
-    ensures { λ r. ⌜ now (labels .exit) ≡ labelsAfter r w rank (now (labels .entry)) (now (counts .entry)) (now (met .entry)) ⌝ }
-    ensures { λ r. ⌜ now (counts .exit) ≡ countsAfter r w rank (now (labels .entry)) (now (counts .entry)) (now (met .entry)) ⌝ }
+    ensures { λ r. ⌜ now (labels .exit) ≡ ifMade r (labelsOf (length (now (met .entry))) w (rowsAfter w rank (now (labels .entry)) (now (counts .entry)) (now (met .entry)))) (now (labels .entry)) ⌝ }
+    ensures { λ r. ⌜ now (counts .exit) ≡ ifMade r (countsOf (length (now (met .entry))) (rowsAfter w rank (now (labels .entry)) (now (counts .entry)) (now (met .entry)))) (now (counts .entry)) ⌝ }
 {
     let room = fits(w, counts, met, queue, tail);
     if room {
-        let short = near(met, queue, tail);
+        let short = none_far(met, queue, tail);
         if short {
             store(w, rank, labels, counts, met, queue, tail);
             return Walked::Made;

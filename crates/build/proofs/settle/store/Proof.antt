@@ -9,7 +9,7 @@ use lib.ListN.{length, getD, set}
 use Rattle.theory.specs.Rows.{Row}
 use Rattle.rows.specs.Entry.{entryOf}
 use Rattle.build.specs.Build.{labelsOf, countsOf}
-use Rattle.build.specs.Settle.{rowsIn, rowsAfter, isKept, SettleIn, labelsAfter, countsAfter}
+use Rattle.build.specs.Settle.{rowsIn, rowsAfter, isKept, SettleIn}
 use Rattle.build.proofs.RoomLaws.{labels-ext, counts-ext, length-labels, length-counts, count-at}
 use Rattle.build.proofs.RoomMarks.{partly, partly-none, still, room-left, labels-step, counts-step, all-turns}
 use Rattle.build.proofs.settle.store.Statement.{statement}
@@ -105,7 +105,6 @@ same-length-2 c =
     ap length (c .before .loop .inv .2) ∙ length-counts _ _ ∙ sym (ap length (c .before .before .before .before .before .before .pre .0 .laid .numbers) ∙ length-counts _ _)
 
 returns : tie.Need-returns Inv-loop μ-loop
-unfolding labelsAfter countsAfter
 returns c =
     let w = c .before .before .before .before .before .before .args .w in
     let n = length (c .before .before .before .before .before .before .args .met .now) in

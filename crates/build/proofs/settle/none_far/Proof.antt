@@ -8,9 +8,9 @@ use borrow.Author.Needs.{needs}
 use borrow.Author.Count.{below-more}
 use lib.ListN.{length, getD}
 use Rattle.build.specs.Settle.{isFar}
-use Rattle.build.proofs.RoomMarks.{near-done, near-not}
-use Rattle.build.proofs.settle.near.Statement.{statement}
-use Rattle.build.proofs.settle.near.Tie as tie
+use Rattle.build.proofs.RoomMarks.{far-done, far-not}
+use Rattle.build.proofs.settle.none_far.Statement.{statement}
+use Rattle.build.proofs.settle.none_far.Tie as tie
 
 abbrev Inv-loop : tie.InvT-loop
 Inv-loop met queue tail i₀ i = (i ≤ tail) × ((j : ℕ) → j < i → isFar (getD met (getD queue j 0) 0) ≡ false)
@@ -42,7 +42,7 @@ is-far-requires c κs = search needs
 returns : tie.Need-returns Inv-loop μ-loop
 returns c =
     sym
-    (near-not (c .before .before .before .before .before .before .before .before .args .met .now) (c .before .before .before .before .before .before .before .before .args .queue .now) (c .before .before .before .before .before .before .before .before .args .tail) (c .before .before .before .before .before .before .before .before .pre) (c .before .before .before .before .before .loop .i) (c .before .before .before .before .loop-test .taken)
+    (far-not (c .before .before .before .before .before .before .before .before .args .met .now) (c .before .before .before .before .before .before .before .before .args .queue .now) (c .before .before .before .before .before .before .before .before .args .tail) (c .before .before .before .before .before .before .before .before .pre) (c .before .before .before .before .before .loop .i) (c .before .before .before .before .loop-test .taken)
     (sym (c .before .is-far .ensures) ∙ c .if1 .taken))
 
 add-i : tie.Need-add-i Inv-loop μ-loop
@@ -57,11 +57,11 @@ loop-again c = (omega arith, below-more _ _ (c .before .before .before .before .
 returns-2 : tie.Need-returns-2 Inv-loop μ-loop
 returns-2 c =
     sym
-    (near-done (c .before .before .before .before .args .met .now) (c .before .before .before .before .args .queue .now) (c .before .before .before .before .args .tail) (c .before .before .before .before .pre)
+    (far-done (c .before .before .before .before .args .met .now) (c .before .before .before .before .args .queue .now) (c .before .before .before .before .args .tail) (c .before .before .before .before .pre)
     (λ j h. c .before .loop .inv .1 j (omega arith)))
 
-pub near-spec : {M : Type 1} → statement M
-near-spec =
+pub none-far-spec : {M : Type 1} → statement M
+none-far-spec =
     tie.close
     (tie.spec
     Inv-loop
