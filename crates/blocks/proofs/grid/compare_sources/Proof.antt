@@ -6,7 +6,8 @@ use Rattle.blocks.proofs.grid.compare_sources.Statement.{statement}
 use Rattle.blocks.proofs.grid.compare_sources.Tie as tie
 
 abbrev Inv-loop : tie.InvT-loop
-Inv-loop starts places labels counts met₀ queue₀ tally₀ seed₀ left₀ met queue tally seed left = (length met ≡ length met₀) × (length queue ≡ length queue₀)
+Inv-loop starts places labels counts met₀ queue₀ tally₀ seed₀ left₀ met queue tally seed left =
+    (length met ≡ length met₀) × (length queue ≡ length queue₀)
 
 abbrev μ-loop : tie.MeasureT-loop
 μ-loop starts places labels counts met₀ queue₀ tally₀ seed₀ left₀ met queue tally seed left = left

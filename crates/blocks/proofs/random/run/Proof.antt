@@ -8,7 +8,9 @@ use Rattle.blocks.proofs.random.run.Tie as tie
 
 abbrev Inv-loop : tie.InvT-loop
 Inv-loop marks₀ starts₀ places₀ order₀ labels₀ counts₀ met₀ queue₀ sums₀ tally₀ block₀ marks starts places order labels counts met queue sums tally block =
-    (length marks ≡ length marks₀) × (length starts ≡ length starts₀) × (length places ≡ length places₀) × (length order ≡ length order₀) × (length labels ≡ length labels₀) × (length counts ≡ length counts₀) × (length met ≡ length met₀) × (length queue ≡ length queue₀) × (length sums ≡ length sums₀)
+    (length marks ≡ length marks₀) × (length starts ≡ length starts₀) × (length places ≡ length places₀) ×
+    (length order ≡ length order₀) × (length labels ≡ length labels₀) × (length counts ≡ length counts₀) ×
+    (length met ≡ length met₀) × (length queue ≡ length queue₀) × (length sums ≡ length sums₀)
 
 abbrev μ-loop : tie.MeasureT-loop
 μ-loop marks₀ starts₀ places₀ order₀ labels₀ counts₀ met₀ queue₀ sums₀ tally₀ block₀ marks starts places order labels counts met queue sums tally block =

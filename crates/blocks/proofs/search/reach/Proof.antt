@@ -7,7 +7,8 @@ use Rattle.blocks.proofs.search.reach.Statement.{statement}
 use Rattle.blocks.proofs.search.reach.Tie as tie
 
 abbrev Inv-loop : tie.InvT-loop
-Inv-loop starts places u joins₀ queue₀ tail next end₀ at₀ last joins queue end at = (length joins ≡ length joins₀) × (length queue ≡ length queue₀)
+Inv-loop starts places u joins₀ queue₀ tail next end₀ at₀ last joins queue end at =
+    (length joins ≡ length joins₀) × (length queue ≡ length queue₀)
 
 abbrev μ-loop : tie.MeasureT-loop
 μ-loop starts places u joins₀ queue₀ tail next end₀ at₀ last joins queue end at = last - at

@@ -7,7 +7,8 @@ use Rattle.blocks.proofs.search.search_from.Statement.{statement}
 use Rattle.blocks.proofs.search.search_from.Tie as tie
 
 abbrev Inv-loop : tie.InvT-loop
-Inv-loop n starts places hub joins₀ queue₀ head₀ tail₀ joins queue head tail = (length joins ≡ length joins₀) × (length queue ≡ length queue₀)
+Inv-loop n starts places hub joins₀ queue₀ head₀ tail₀ joins queue head tail =
+    (length joins ≡ length joins₀) × (length queue ≡ length queue₀)
 
 abbrev μ-loop : tie.MeasureT-loop
 μ-loop n starts places hub joins₀ queue₀ head₀ tail₀ joins queue head tail = n - head
