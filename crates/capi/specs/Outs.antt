@@ -11,6 +11,7 @@ use Rattle.rows.specs.Rooms.{checkRow}
 use Rattle.rows.specs.Lookup.{rowOf, rowStart}
 use Rattle.rows.specs.Pair as pair
 use Rattle.rows.specs.Spread as spread
+use Rattle.file.specs.Writer.{Wrote}
 
 -- the number returned, `*place`, the other out values and the lent rooms, both in the order of the parameters
 pub record Outs : Type 0 where
@@ -43,3 +44,7 @@ rowOuts n w labels counts v =
 -- the spread question
 unfoldable pub spreadOuts : spread.SpreadTold → Outs
 spreadOuts t = outs (t .number) (t .place) (t .spread ∷ []) []
+
+-- the writer: the bytes it filled, and the output room
+unfoldable pub writeOuts : Wrote → Outs
+writeOuts o = outs (o .number) (o .place) (o .bytes ∷ []) (o .room ∷ [])

@@ -7,7 +7,9 @@ ghost use Rattle.links.specs.Order.{checkOrder, degreeOf};
 ghost use Rattle.rows.specs.Rooms.{checkRow};
 ghost use Rattle.rows.specs.Pair.{pairTold};
 ghost use Rattle.rows.specs.Spread.{spreadNumbers};
-ghost use Rattle.capi.specs.Outs.{outs, testOuts, orderOuts, pairOuts, rowOuts, spreadOuts};
+ghost use Rattle.file.specs.Writer.{writeOf};
+ghost use Rattle.capi.specs.Outs.{outs, testOuts, orderOuts, pairOuts, rowOuts, spreadOuts, writeOuts};
+use file::Written;
 use refusal::Verdict;
 use rows::entry::Entry;
 use rows::pair::Answer;
@@ -177,6 +179,40 @@ pub extern "C" fn seam_spread(
         }
         SpreadAnswer::Refused(r) => {
             *spread = 0;
+            *place = r.place as u64;
+            r.number
+        }
+    }
+}
+
+// The writer: `bytes` is how many bytes of the output room it filled.
+#[no_mangle]
+pub extern "C" fn seam_write(
+    n: usize,
+    w: usize,
+    k: usize,
+    order: &[u32],
+    labels: &[Entry],
+    counts: &[u32],
+    out: &mut [u8],
+    start: usize,
+    bytes: &mut u64,
+    place: &mut u64,
+) -> u32
+    ensures { λ r. ⌜
+        outs r (now (place .exit)) (now (bytes .exit) ∷ []) (now (out .exit) ∷ [])
+        ≡ writeOuts
+        (writeOf n k w (now (order .entry)) (now (labels .entry)) (now (counts .entry)) (now (out .entry)) start)
+        ⌝ }
+{
+    match file::write(n, w, k, order, labels, counts, out, start) {
+        Written::Bytes(filled) => {
+            *bytes = filled as u64;
+            *place = 0;
+            0
+        }
+        Written::Refused(r) => {
+            *bytes = 0;
             *place = r.place as u64;
             r.number
         }

@@ -8,6 +8,8 @@ pub mod LayoutLaws
 pub mod Packed
 pub mod Pen
 pub mod ReadBack
+pub mod ReadFit
+pub mod ReadWrite
 pub mod Reader
 pub mod Steps
 pub mod Stores
