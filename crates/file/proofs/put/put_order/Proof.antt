@@ -23,11 +23,11 @@ unfolding orderFields
 next l i h = rw (add-one i, drop-cons l i 0 h)
 
 abbrev Inv-loop : tie.InvT-loop
-Inv-loop out₀ order now-at₀ rank₀ out now-at rank =
-    (rank ≤ length order) × Left out₀ now-at₀ (orderFields order) out now-at (orderFields (drop rank order))
+Inv-loop out₀ order tip₀ rank₀ out tip rank =
+    (rank ≤ length order) × Left out₀ tip₀ (orderFields order) out tip (orderFields (drop rank order))
 
 abbrev μ-loop : tie.MeasureT-loop
-μ-loop out₀ order now-at₀ rank₀ out now-at rank = length order - rank
+μ-loop out₀ order tip₀ rank₀ out tip rank = length order - rank
 
 loop-holds : tie.Need-loop-holds Inv-loop μ-loop
 loop-holds c = (omega arith, left-start (c .before .before .pre))
@@ -66,7 +66,7 @@ unfolding orderFields
 returns c =
     let a = c .before .before .before .before .args in
     let l = c .before .loop in
-    left-end (subst (λ (r : List ℕ). Left (now (a .out)) (a .pen) (orderFields (now (a .order))) (l .out) (l .now-at) (orderFields r)) (drop-of-length-le (now (a .order)) (c .loop-test .left)) (l .inv .1))
+    left-end (subst (λ (r : List ℕ). Left (now (a .out)) (a .pen) (orderFields (now (a .order))) (l .out) (l .tip) (orderFields r)) (drop-of-length-le (now (a .order)) (c .loop-test .left)) (l .inv .1))
 
 pub put-order-spec : {M : Type 1} → statement M
 put-order-spec =
