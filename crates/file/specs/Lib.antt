@@ -4,3 +4,4 @@ pub mod Pen
 pub mod Writer
 pub mod Reader
 pub mod Steps
+pub mod Stores

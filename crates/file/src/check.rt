@@ -1,13 +1,15 @@
 // The tests on the fields behind the header, in bit order. Nothing is stored here but which frames the order has had.
+use crate::Opened;
 use crate::Whole;
 use crate::get;
 use crate::get::Step;
+use crate::widths;
 use refusal::Verdict;
 ghost use Prim.Native.Nat.{_+_, _*_, _≤_, _<_};
 ghost use mathlib.Core.Path.{_≡_};
 ghost use lib.ListN.{length};
 ghost use Rattle.file.specs.Bits.{fieldAt, byteLen};
-ghost use Rattle.file.specs.Reader.{frameAt, orderFieldTest, orderFrom, entryTest, entriesFrom, rowTest, behind, rowsOf, endTest, bodyTest};
+ghost use Rattle.file.specs.Reader.{frameAt, orderFieldTest, orderFrom, entryTest, entriesFrom, rowTest, behind, rowsOf, endTest, bodyTest, framesOf, stopOf, readTest, opened};
 ghost use Rattle.file.specs.Steps.{step, Seen};
 
 // The order field of rank r: its frame, or the refusal; `seen` has the frames that stand at lower ranks.
@@ -16,8 +18,8 @@ pub fn order_field(bytes: &[u8], n: usize, r: usize, seen: &mut [bool]) -> Step
     ensures found { λ x. ⌜ x ≡ step (orderFieldTest (now (bytes .entry)) n r) (frameAt (now (bytes .entry)) r) ⌝ }
     ensures noted { λ x. ⌜ (orderFieldTest (now (bytes .entry)) n r ≡ Verdict.Fine → Seen (now (bytes .entry)) (now (seen .exit)) (r + 1)) ⌝ }
 {
-    let p = 32 + 12 * r;
-    let got = get::field(bytes, p, 12);
+    let p = widths::HEADER_BITS + widths::FRAME_BITS * r;
+    let got = get::field(bytes, p, widths::FRAME_BITS);
     let Step::On(v) = got else {
         return got;
     };
@@ -53,7 +55,7 @@ pub fn entry(bytes: &[u8], n: usize, k: usize, p: usize, low: usize) -> Step
     requires { ⌜ p < 1073741824 ⌝ }
     ensures { λ x. ⌜ x ≡ step (entryTest (now (bytes .entry)) n k p low) (fieldAt (now (bytes .entry)) p 12) ⌝ }
 {
-    let got = get::field(bytes, p, 12);
+    let got = get::field(bytes, p, widths::RANK_BITS);
     let Step::On(rank) = got else {
         return got;
     };
@@ -63,8 +65,8 @@ pub fn entry(bytes: &[u8], n: usize, k: usize, p: usize, low: usize) -> Step
     if k <= rank {
         return get::stop(refusal::FIELD, p);
     }
-    let at = p + 12;
-    let more = get::field(bytes, at, 12);
+    let at = p + widths::RANK_BITS;
+    let more = get::field(bytes, at, widths::JOINS_BITS);
     let Step::On(joins) = more else {
         return more;
     };
@@ -88,7 +90,7 @@ pub fn entries(bytes: &[u8], n: usize, k: usize, p: usize, count: usize) -> Verd
             return get::verdict(got);
         };
         low = rank + 1;
-        at += 24;
+        at += widths::ENTRY_BITS;
         left -= 1;
     }
     Verdict::Fine
@@ -99,7 +101,7 @@ pub fn row(bytes: &[u8], n: usize, k: usize, w: usize, v: usize, p: usize) -> St
     requires { ⌜ p < 268435456 ⌝ }
     ensures { λ x. ⌜ x ≡ step (rowTest (now (bytes .entry)) n k w v p) (behind (now (bytes .entry)) p) ⌝ }
 {
-    let got = get::field(bytes, p, 9);
+    let got = get::field(bytes, p, widths::COUNT_BITS);
     let Step::On(count) = got else {
         return got;
     };
@@ -109,12 +111,12 @@ pub fn row(bytes: &[u8], n: usize, k: usize, w: usize, v: usize, p: usize) -> St
     if w < count {
         return get::stop(refusal::ROOM, v);
     }
-    let at = p + 9;
+    let at = p + widths::COUNT_BITS;
     let tested = entries(bytes, n, k, at, count);
     if let Verdict::Refused(f) = tested {
         return Step::Refused(f);
     }
-    Step::On(at + 24 * count)
+    Step::On(at + widths::ENTRY_BITS * count)
 }
 
 // All rows: how many were whole, the bit behind them, and what came next.
@@ -123,7 +125,7 @@ pub fn rows(bytes: &[u8], n: usize, k: usize, w: usize) -> Whole
     ensures { λ x. ⌜ x ≡ rowsOf (now (bytes .entry)) n k w ⌝ }
 {
     let mut v: usize = 0;
-    let mut p = 32 + 12 * n;
+    let mut p = widths::HEADER_BITS + widths::FRAME_BITS * n;
     while v < n {
         let got = row(bytes, n, k, w, v, p);
         let Step::On(next) = got else {
@@ -175,4 +177,35 @@ pub fn body(bytes: &[u8], n: usize, k: usize, w: usize) -> Verdict
     };
     let bit = found.bit;
     end(bytes, bit)
+}
+
+// The whole file against a width and the lengths of three rooms: n and k, or the refusal.
+pub fn file(bytes: &[u8], w: usize, order: usize, labels: usize, counts: usize) -> Opened
+    ensures { λ x. ⌜ x ≡ opened (readTest (now (bytes .entry)) w order labels counts) (framesOf (now (bytes .entry))) (stopOf (now (bytes .entry))) ⌝ }
+{
+    if w < 1 {
+        return get::closed(refusal::SIZE, 0);
+    }
+    if 256 < w {
+        return get::closed(refusal::SIZE, 0);
+    }
+    let headed = crate::header(bytes);
+    let Opened::Index(n, k) = headed else {
+        return headed;
+    };
+    if order != n {
+        return get::closed(refusal::LENGTH, 0);
+    }
+    let places = n * w;
+    if labels != places {
+        return get::closed(refusal::LENGTH, 0);
+    }
+    if counts != n {
+        return get::closed(refusal::LENGTH, 0);
+    }
+    let tested = body(bytes, n, k, w);
+    if let Verdict::Refused(f) = tested {
+        return Opened::Refused(f);
+    }
+    Opened::Index(n, k)
 }

@@ -1,4 +1,5 @@
 // Fields out of a byte string: a field is gathered byte by byte, at most three of them, and cut out of what was gathered.
+use crate::Opened;
 use refusal::Refusal;
 use refusal::Verdict;
 ghost use mathlib.Core.Path.{_≡_};
@@ -25,6 +26,13 @@ pub fn refused(number: u32, place: usize) -> Verdict
     ensures { λ r. ⌜ r ≡ Verdict.Refused (refusal number place) ⌝ }
 {
     Verdict::Refused(Refusal { number, place })
+}
+
+// The same as an answer.
+pub fn closed(number: u32, place: usize) -> Opened
+    ensures { λ r. ⌜ r ≡ Opened.Refused (refusal number place) ⌝ }
+{
+    Opened::Refused(Refusal { number, place })
 }
 
 // A step without its number.

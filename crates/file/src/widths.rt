@@ -16,8 +16,8 @@ pub const RANK_BITS: usize = 12;
 
 pub const JOINS_BITS: usize = 12;
 
-// The header, in bytes.
-pub const HEADER_BYTES: usize = (VERSION_BITS + FRAMES_BITS + STOP_BITS + SPARE_BITS) / 8;
+// What stands before the order.
+pub const HEADER_BITS: usize = VERSION_BITS + FRAMES_BITS + STOP_BITS + SPARE_BITS;
 
 // What a frame takes: its place in the order and its count.
 pub const EACH_FRAME_BITS: usize = FRAME_BITS + COUNT_BITS;

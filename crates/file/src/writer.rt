@@ -103,7 +103,7 @@ pub fn size(n: usize, counts: &[u32]) -> usize
 {
     let entries = total(counts);
     let bits = widths::EACH_FRAME_BITS * n + widths::ENTRY_BITS * entries;
-    widths::HEADER_BYTES + (bits + 7) / 8
+    widths::HEADER_BITS / 8 + (bits + 7) / 8
 }
 
 // Puts the whole file into a stretch of just its length.

@@ -1,9 +1,9 @@
 -- The answer of the pair question is the theory's: over rows with ranks and joins below n, the best meeting has the least sum
 -- of joins over the ranks below n that are in both rows.
 use Prim.Native.Nat.{ℕ, zero, suc, _+_, _*_, _≤_, _<_, min}
-use mathlib.Core.Path.{_≡_, refl, sym, ap, _∙_}
+use mathlib.Core.Path.{_≡_, refl, sym, ap, subst, _∙_}
 use mathlib.Core.Bool.{Bool, true, false, cond, _&&_, _||_}
-use mathlib.Core.List.{List, [], _∷_, _++_}
+use mathlib.Core.List.{List, [], _∷_, _++_, List·Memᴰ·not-nil, List·Memᴰ·cases-cons}
 use native.Mathlib.Decide.{ℕ-discrete}
 use native.Mathlib.Nat.{le-antisymm, one-mul}
 use native.Mathlib.Omega.{arith}
@@ -13,9 +13,10 @@ use lib.Dec.{eqb, ltb}
 use Rattle.basics.specs.Places.{least}
 use Rattle.basics.proofs.Laws.{bcase, by-cases, lt-or-ge, three-ways, cond-true, cond-false, either-false, either-true, both-true, cases, least-most, least-ge}
 use Rattle.refusal.specs.declared.Verdict.the-variants.{Fine}
-use Rattle.theory.specs.Chains.{Count, joins, none}
+use Rattle.theory.specs.Chains.{Count, joins, none, Least}
 use Rattle.theory.specs.Distance.{far, said}
-use Rattle.theory.specs.Rows.{at, answer}
+use Rattle.theory.specs.Rows.{Row, In, Shared, at, answer}
+use Rattle.theory.proofs.Answer.{literal}
 use Rattle.rows.specs.Entry.{rankOf, joinsOf, decode}
 use Rattle.rows.specs.Meetings.{meeting, meetingsAt, meetings, goesBefore, lesserOf, leastFrom, meetingOf}
 use Rattle.rows.specs.Pair.{pairTests, pairOf, answered, countOf}
@@ -222,3 +223,40 @@ pair-answer n w labels counts s t e =
     ap countOf (answer-fine n w labels counts s t e refl)
     ∙ best-answer (far 1 n) n (rowAt w labels counts s) (rowAt w labels counts t) (two-fit n)
     (λ i h. ss .rank i (omega arith)) (λ i h. ss .joins i (omega arith)) (λ i h. ts .joins i (omega arith))
+
+-- ---- in the paper's words
+
+-- what a decoded row holds stands in the row
+in-decoded : (row : List ℕ) (r m : ℕ) → In r m (decode row)
+    → (i : ℕ) × (i < length row) × (rankOf (getD row i 0) ≡ r) × (joinsOf (getD row i 0) ≡ m)
+unfolding decode
+in-decoded [] r m h = absurd (List·Memᴰ·not-nil h)
+in-decoded (e ∷ es) r m h =
+    cases (List·Memᴰ·cases-cons h)
+    (λ q. (zero, omega arith, sym (ap (λ (p : ℕ × ℕ). p .0) q), sym (ap (λ (p : ℕ × ℕ). p .1) q)))
+    (λ k.
+    let (i, b, p, q) = in-decoded es r m k in
+    (suc i, omega arith, p, q))
+
+-- the answer for (s,t): the least sum of joins over ranks found in both rows; "none" if no rank is shared
+pub pair-literal : (n w : ℕ) (labels counts : List ℕ) (s t : ℕ) → pairTests n w labels counts s t ≡ Fine
+    → Least (Shared (decode (rowAt w labels counts s)) (decode (rowAt w labels counts t)))
+    (countOf (pairOf n w labels counts s t))
+pair-literal n w labels counts s t e =
+    let asked = pair-asked n w labels counts s t e in
+    let (sc, ss) = row-sound n n w labels counts s (asked .first-sound) in
+    let (tc, ts) = row-sound n n w labels counts t (asked .second-sound) in
+    let sl = length-row (asked .rooms) s (asked .first) sc in
+    let tl = length-row (asked .rooms) t (asked .second) tc in
+    let x : Row = decode (rowAt w labels counts s) in
+    let y : Row = decode (rowAt w labels counts t) in
+    let low : (r m : ℕ) → In r m x → r < n =
+    λ r m h.
+    let (i, b, p, q) = in-decoded (rowAt w labels counts s) r m h in
+    omega (arith, ss .rank i (omega arith)) in
+    let small : (m : ℕ) → Shared x y m → m < far 1 n =
+    λ m h.
+    let (i, b, p, q) = in-decoded (rowAt w labels counts s) (h .rank) (h .first) (h .in-first) in
+    let (j, d, f, g) = in-decoded (rowAt w labels counts t) (h .rank) (h .second) (h .in-second) in
+    omega (arith, ss .joins i (omega arith), ts .joins j (omega arith), h .whole, two-fit n) in
+    subst (Least (Shared x y)) (sym (pair-answer n w labels counts s t e)) (literal (far 1 n) n x y low small)

@@ -19,7 +19,7 @@ use Rattle.rows.specs.declared.merge.Best.the-variants.{Nowhere, Meet}
 use Rattle.rows.specs.declared.pair.Answer.{Answer}
 use Rattle.rows.specs.declared.pair.Answer.the-variants as answers
 use Rattle.rows.proofs.Laws.{Sound, row-sound, row-inside}
-use Rattle.rows.proofs.RoomLaws.{fine-rooms, length-row}
+use Rattle.rows.proofs.RoomLaws.{fine-rooms, length-row, rooms-fine}
 
 -- ---- tests on a frame and on its row
 
@@ -106,6 +106,13 @@ module _ (n w : ℕ) (labels counts : List ℕ) (s t : ℕ) where
         first-sound = row-held n w labels counts s (f .0);
         second-sound = row-held n w labels counts t (f .1);
       }
+
+-- and back: such rooms, frames and rows are not refused
+pub asked-fine : {n w : ℕ} {labels counts : List ℕ} {s t : ℕ} → Asked n w labels counts s t
+    → pairTests n w labels counts s t ≡ Fine
+asked-fine {n} {w} {labels} {counts} {s} {t} a =
+    pair-rows n w labels counts s t (rooms-fine (a .rooms)) (a .first) (a .second) (a .first-sound)
+    ∙ row-fine n w labels counts t (a .second-sound)
 
 -- a sound row is fit for the merge
 pub row-in : {n w : ℕ} {labels counts : List ℕ} {v : ℕ} → Rooms n w labels counts → v < n

@@ -32,7 +32,7 @@ refused-requires c κs = search needs
 returns : tie.Need-returns Inv-loop μ-loop
 returns c =
     let at = c .before .before .before .before in
-    c .refused .ensures ∙ sym (seen-stop (at .loop .inv) (c .before .before .before .loop-test .taken) (rank-out _ _ _ (c .before .if1 .taken)))
+    c .refused .ensures ∙ sym (seen-stop (at .loop .inv) (c .before .before .before .loop-test .taken) (rank-out _ _ _ (omega arith)))
 
 array-read-if2 : tie.Need-array-read-if2 Inv-loop μ-loop
 array-read-if2 c = omega arith

@@ -1,52 +1,40 @@
 -- `links::scan::first_faulty` meets its contract. Inner invariant: whether v's list is faulty is decided from `at` on;
 -- end - at falls. Outer: the lowest faulty frame lies from v on; n - v falls. A faulty link makes v that frame.
-use Prim.Native.Nat.{ℕ, _+_, _-_, _≤_}
-use mathlib.Core.Path.{_≡_, refl, sym, _∙_}
-use mathlib.Core.List.{List}
+use Prim.Native.Nat.{_+_, _-_}
+use mathlib.Core.Path.{sym, _∙_}
 use native.Mathlib.Omega.{arith}
-use native.Mathlib.Nat.{sub-zero}
 use borrow.Author.Count.{falls}
-use lib.ListN.{length, getD, length-replicate}
-use Rattle.basics.specs.Places.{first, some}
-use Rattle.basics.proofs.Laws.{first-here, first-step, first-over, some-here, some-step, some-over}
-use Rattle.links.specs.Links.{degree, faultyLink, faultyList}
+use Rattle.links.specs.Inner.{ListIn}
 use Rattle.links.proofs.Links.{list-in}
+use Rattle.links.proofs.Lists.{Links, links-first, links-on, links-stop, links-end, Frames, frames-first, frames-on, frames-stop, frames-end}
 use Rattle.links.proofs.scan.first_faulty.Statement.{statement}
 use Rattle.links.proofs.scan.first_faulty.Tie as tie
 
--- the whole list, from its start to the next
-list-whole : (n : ℕ) (S L : List ℕ) (v : ℕ)
-    → some (faultyLink n S L v) (getD S v 0) (getD S (v + 1) 0 - getD S v 0) ≡ faultyList n S L v
-unfolding faultyList degree
-list-whole n S L v = refl
-
 abbrev Inv-loop : tie.InvT-loop
-Inv-loop n starts places cursors₀ v next end at₀ cursors at =
-    (getD starts v 0 ≤ at)
-    × (at ≤ end)
-    × (length cursors ≡ 4096)
-    × (some (faultyLink n starts places v) at (end - at) ≡ faultyList n starts places v)
+Inv-loop n starts places cursors₀ v next end at₀ cursors at = Links n starts places cursors v at
 
 abbrev μ-loop : tie.MeasureT-loop
 μ-loop n starts places cursors₀ v next end at₀ cursors at = end - at
 
 abbrev Inv-frames : tie.InvT-frames
-Inv-frames n starts places cursors₀ v₀ cursors v =
-    (v ≤ n)
-    × (length cursors ≡ 4096)
-    × (first (faultyList n starts places) v (n - v) ≡ first (faultyList n starts places) 0 n)
+Inv-frames n starts places cursors₀ v₀ cursors v = Frames n starts places cursors v
 
 abbrev μ-frames : tie.MeasureT-frames
 μ-frames n starts places cursors₀ v₀ cursors v = n - v
 
+-- where v's list lies
+list-of : (c : tie.In-loop Inv-loop μ-loop Inv-frames μ-frames)
+    → ListIn (c .before .before .before .before .before .before .before .before .args .starts .now) (c .before .before .before .before .before .before .before .before .args .places .now) (c .before .before .before .before .before .frames .v)
+list-of c = list-in _ (c .before .before .before .before .before .before .before .before .pre) _ (c .before .before .before .before .frames-test .taken)
+
 frames-holds : tie.Need-frames-holds Inv-loop μ-loop Inv-frames μ-frames
-frames-holds c = (omega arith, length-replicate {A = ℕ} 4096 0, rw sub-zero refl)
+frames-holds c = frames-first _ _
 
 add-next : tie.Need-add-next Inv-loop μ-loop Inv-frames μ-frames
 add-next c = omega arith
 
 mul-end : tie.Need-mul-end Inv-loop μ-loop Inv-frames μ-frames
-mul-end c = omega (arith, c .before .before .before .before .pre .frames, c .before .before .before .before .pre .long)
+mul-end c = omega (arith, c .before .before .before .before .pre .frames)
 
 shared-slice-read-end : tie.Need-shared-slice-read-end Inv-loop μ-loop Inv-frames μ-frames
 shared-slice-read-end c = omega (arith, c .before .before .before .before .before .pre .long)
@@ -64,33 +52,27 @@ cast-at : tie.Need-cast-at Inv-loop μ-loop Inv-frames μ-frames
 cast-at c = omega (arith, c .shared-slice-known4 .given (c .before .before .before .frames .v))
 
 loop-holds : tie.Need-loop-holds Inv-loop μ-loop Inv-frames μ-frames
-loop-holds c =
-    let frames = c .before .before .before in
-    let list = list-in _ (c .before .before .before .before .before .before .pre) (frames .frames .v) (c .before .before .frames-test .taken) in
-    (omega arith, list .rise, frames .frames .inv .1, list-whole _ _ _ _)
+loop-holds c = links-first (c .before .before .before .before .before .before .pre) (c .before .before .before .frames .inv) (c .before .before .frames-test .taken)
 
 slice-aggregate-faulty : tie.Need-slice-aggregate-faulty Inv-loop μ-loop Inv-frames μ-frames
-slice-aggregate-faulty c = sym (c .before .before .loop .inv .2)
+slice-aggregate-faulty c = sym (c .before .before .loop .inv .cursors)
 
 faulty-requires : tie.Need-faulty-requires Inv-loop μ-loop Inv-frames μ-frames
 faulty-requires c κs =
-    let start = c .before .before .before .before .before .before .before .before .before in
-    let list = list-in _ (start .pre) (c .before .before .before .before .before .before .frames .v) (c .before .before .before .before .before .frames-test .taken) in
-    (start .pre, c .before .before .before .before .before .frames-test .taken, omega arith, omega (arith, start .pre .frames, c .before .before .loop .inv .2))
+    let s = c .before .before .before .before .before .before .before .before .before .pre in
+    let list = list-of (c .before) in
+    (s, c .before .before .before .before .before .frames-test .taken, omega arith, omega (arith, s .frames, c .before .before .loop .inv .cursors))
 
 add-at : tie.Need-add-at Inv-loop μ-loop Inv-frames μ-frames
-add-at c = omega (arith, list-in _ (c .before .before .before .before .before .before .before .before .before .before .before .before .pre) (c .before .before .before .before .before .before .before .before .before .frames .v) (c .before .before .before .before .before .before .before .before .frames-test .taken), c .before .before .before .before .before .loop .inv .1, c .before .before .before .before .loop-test .taken)
+add-at c = omega (arith, list-of (c .before .before .before .before), c .before .before .before .before .loop-test .taken)
 
 loop-less : tie.Need-loop-less Inv-loop μ-loop Inv-frames μ-frames
 loop-less c = omega arith
 
 loop-again : tie.Need-loop-again Inv-loop μ-loop Inv-frames μ-frames
-loop-again c = (
-  omega arith,
-  omega arith,
-  c .before .before .faulty .kept .1 .1 .1 .1 .1 .0 ∙ c .before .before .before .before .before .loop .inv .2,
-  some-step _ _ _ (c .before .before .before .before .loop-test .taken) (sym (c .before .before .faulty .ensures) ∙ c .if1 .left) ∙ c .before .before .before .before .before .loop .inv .3,
-)
+loop-again c =
+    links-on (c .before .before .before .before .before .loop .inv) (c .before .before .before .before .loop-test .taken) (sym (c .before .before .faulty .ensures) ∙ c .if1 .left)
+    (c .before .before .faulty .kept .1 .1 .1 .1 .1 .0)
 
 add-v : tie.Need-add-v Inv-loop μ-loop Inv-frames μ-frames
 add-v c = omega arith
@@ -100,16 +82,16 @@ frames-less c = falls _ _ (c .before .before .before .before .frames-test .taken
 
 frames-again : tie.Need-frames-again Inv-loop μ-loop Inv-frames μ-frames
 frames-again c =
-    let sound = sym (c .before .loop .inv .3) ∙ some-over _ _ _ (c .loop-test .left) in
-    (omega arith, c .before .loop .inv .2, first-step _ _ _ (c .before .before .before .before .frames-test .taken) sound ∙ c .before .before .before .before .before .frames .inv .2)
+    frames-on (c .before .before .before .before .before .frames .inv) (c .before .before .before .before .frames-test .taken) (links-end (c .before .loop .inv) (c .loop-test .left))
+    (c .before .loop .inv .cursors)
 
 returns : tie.Need-returns Inv-loop μ-loop Inv-frames μ-frames
-returns c = sym (first-over _ _ _ (c .frames-test .left)) ∙ c .before .frames .inv .2
+returns c = frames-end (c .before .frames .inv) (c .frames-test .left)
 
 returns-2 : tie.Need-returns-2 Inv-loop μ-loop Inv-frames μ-frames
 returns-2 c =
-    let bad = sym (c .before .before .before .before .before .loop .inv .3) ∙ some-here _ _ _ (c .before .before .before .before .loop-test .taken) (sym (c .before .before .faulty .ensures) ∙ c .if1 .taken) in
-    sym (first-here _ _ _ (c .before .before .before .before .before .before .before .before .frames-test .taken) bad) ∙ c .before .before .before .before .before .before .before .before .before .frames .inv .2
+    frames-stop (c .before .before .before .before .before .before .before .before .before .frames .inv) (c .before .before .before .before .before .before .before .before .frames-test .taken)
+    (links-stop (c .before .before .before .before .before .loop .inv) (c .before .before .before .before .loop-test .taken) (sym (c .before .before .faulty .ensures) ∙ c .if1 .taken))
 
 pub first-faulty-spec : {M : Type 1} → statement M
 first-faulty-spec =
