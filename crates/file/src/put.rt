@@ -3,10 +3,8 @@
 use crate::widths;
 use rows::entry;
 use rows::entry::Entry;
-ghost use mathlib.Core.Path.{_≡_};
 ghost use mathlib.Core.List.{[], _∷_};
 ghost use Prim.Native.Nat.{_+_, _-_, _*_, _≤_, _<_};
-ghost use lib.ListN.{length};
 ghost use Rattle.file.specs.Bits.{field};
 ghost use Rattle.file.specs.Layout.{headerFields, orderFields, entryFields, rowFields, rowsFields};
 ghost use Rattle.file.specs.Pen.{Ready, Put, RowIn, RowsIn, Closed};

@@ -1,20 +1,20 @@
 -- One field. The invariant: the bytes stored and the bits still held make the number that was to be put, the bits not
 -- stored are as they were. A turn moves eight bits from the pen into the next byte; their number falls.
-use Prim.Native.Nat.{ℕ, zero, suc, _+_, _-_, _*_, _/_, _%_, _^_, _≤_, _<_}
+use Prim.Native.Nat.{ℕ, _+_, _-_, _*_, _/_, _%_, _^_, _≤_, _<_}
 use mathlib.Core.Path.{_≡_, refl, sym, ap, ap₂, subst, _∙_}
-use mathlib.Core.List.{List, [], _∷_, _++_}
+use mathlib.Core.List.{List, [], _∷_}
 use native.Mathlib.Omega.{arith}
-use native.Mathlib.Nat.{add-assoc, add-mul, mul-assoc, mod-lt, mod-eq-sub-div-mul, le-refl, add-zero, lt-of-lt-of-le, div-mul-le-self, le-trans, mod-le}
+use native.Mathlib.Nat.{add-assoc, add-mul, mul-assoc, mod-lt, mod-eq-sub-div-mul, lt-of-lt-of-le, div-mul-le-self, le-trans, mod-le}
 use native.Mathlib.Numerals.{add-one}
 use borrow.Author.Needs.{needs}
 use denote.Ref.{now}
-use lib.ListN.{length, getD, set, take, drop, length-set}
+use lib.ListN.{length, set, take, drop, length-set}
 use lib.Seq.{take-suc-set, drop-set-lt, drop-drop}
-use lib.Pow.{pow-pos, pow-mono, pow-add, split, shr-lt, shl-lt, shl-exact}
+use lib.Pow.{pow-pos, pow-mono, pow-add, split, shr-lt, shl-exact}
 use lib.Arith.{digits-lt}
 use Rattle.file.specs.declared.put.Pen.{Pen}
 use Rattle.file.specs.Bits.{val, bitLen, num, Legal, field}
-use Rattle.file.specs.Pen.{penBits, penNum, Ready, Put}
+use Rattle.file.specs.Pen.{penNum, Ready, Put}
 use Rattle.file.proofs.Bits.{val-append}
 use Rattle.file.proofs.put.put.Statement.{statement}
 use Rattle.file.proofs.put.put.Tie as tie

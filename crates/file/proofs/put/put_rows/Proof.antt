@@ -1,17 +1,15 @@
 -- The rows. The invariant: what is written, followed by the rows from v on, is the whole; the row of v stands first among
 -- them. The frames left grow fewer.
-use Prim.Native.Nat.{ℕ, zero, suc, _+_, _-_, _*_, _%_, _^_, _≤_, _<_}
-use mathlib.Core.Path.{_≡_, refl, sym, ap, ap₂, subst, _∙_}
-use mathlib.Core.List.{List, [], _∷_, _++_}
+use Prim.Native.Nat.{ℕ, suc, _+_, _-_, _≤_, _<_}
+use mathlib.Core.Path.{_≡_, sym, ap, subst, _∙_}
+use mathlib.Core.List.{List, _++_}
 use native.Mathlib.Omega.{arith}
 use borrow.Author.Needs.{needs}
 use denote.Ref.{now}
-use lib.ListN.{length, getD, set, take, drop}
 use native.Mathlib.Numerals.{add-one}
 use native.Mathlib.Nat.{sub-zero}
 use Rattle.file.specs.Layout.{rowFields, rowsFields}
-use Rattle.file.specs.Bits.{Field}
-use Rattle.file.specs.Pen.{Ready, Put, RowIn, RowsIn}
+use Rattle.file.specs.Pen.{RowsIn}
 use Rattle.file.proofs.Pen.{Left, left-start, left-ready, left-step, left-end}
 use Rattle.file.proofs.put.put_rows.Statement.{statement}
 use Rattle.file.proofs.put.put_rows.Tie as tie
