@@ -1,7 +1,7 @@
 -- The field lists of the layout: how many bits they take, and when every value fits its width.
-use Prim.Native.Nat.{ℕ, zero, suc, _+_, _-_, _*_, _^_, _≤_, _<_}
-use mathlib.Core.Path.{_≡_, refl, sym, ap, ap₂, subst, _∙_}
-use mathlib.Core.List.{List, [], _∷_, _++_}
+use Prim.Native.Nat.{ℕ, zero, suc, _+_, _*_, _<_}
+use mathlib.Core.Path.{_≡_, refl, ap, _∙_}
+use mathlib.Core.List.{List, [], _∷_}
 use native.Mathlib.Omega.{arith}
 use lib.ListN.{length, getD, drop}
 use lib.ListN.{drop-of-length-le}
@@ -9,8 +9,8 @@ use lib.Seq.{drop-cons}
 use Rattle.basics.specs.Places.{sum}
 use Rattle.rows.specs.Entry.{rankOf, joinsOf}
 use Rattle.rows.specs.Rooms.{rowAt}
-use Rattle.file.specs.Bits.{Field, bitLen, Legal}
-use Rattle.file.specs.Layout.{headerFields, orderFields, entryFields, rowFields, rowsFields, fileFields}
+use Rattle.file.specs.Bits.{bitLen, Legal}
+use Rattle.file.specs.Layout.{headerFields, orderFields, entryFields, rowFields, rowsFields}
 use Rattle.file.proofs.Bits.{bitLen-append}
 use Rattle.file.proofs.Packed.{legal-append}
 
