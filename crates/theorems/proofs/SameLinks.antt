@@ -8,12 +8,12 @@ use Rattle.links.proofs.check_order.Kinds as check-order-kinds
 use Rattle.links.proofs.check_order.Reads as check-order-reads
 use Rattle.links.proofs.order_by_degree.Kinds as order-by-degree-kinds
 use Rattle.links.proofs.order_by_degree.Reads as order-by-degree-reads
-use Rattle.theorems.proofs.Same.{Same}
+use Rattle.theorems.proofs.Same.{Same, SameAnswer}
 
-pub check-links-same : Same 2 check-links-kinds.ps check-links-kinds.r check-links-reads.Post (λ κs r₁ r₂ s₁ s₂. r₁ ≡ r₂)
+pub check-links-same : SameAnswer 2 check-links-kinds.ps check-links-kinds.r check-links-reads.Post
 check-links-same κs a r₁ r₂ s₁ s₂ p q = p ∙ sym q
 
-pub check-order-same : Same 1 check-order-kinds.ps check-order-kinds.r check-order-reads.Post (λ κs r₁ r₂ s₁ s₂. r₁ ≡ r₂)
+pub check-order-same : SameAnswer 1 check-order-kinds.ps check-order-kinds.r check-order-reads.Post
 check-order-same κs a r₁ r₂ s₁ s₂ p q = p ∙ sym q
 
 -- the order room is the fourth parameter

@@ -20,40 +20,33 @@ use Rattle.rows.proofs.lookup.row.Kinds as row-kinds
 use Rattle.rows.proofs.lookup.row.Reads as row-reads
 use Rattle.rows.proofs.spread.spread.Kinds as spread-kinds
 use Rattle.rows.proofs.spread.spread.Reads as spread-reads
-use Rattle.theorems.proofs.Same.{Same}
+use Rattle.theorems.proofs.Same.{Same, SameAnswer}
 
-pub rank-of-same : Same 0 rank-of-kinds.ps rank-of-kinds.r rank-of-reads.Post
-    (λ κs r₁ r₂ s₁ s₂. r₁ ≡ r₂)
+pub rank-of-same : SameAnswer 0 rank-of-kinds.ps rank-of-kinds.r rank-of-reads.Post
 rank-of-same κs a r₁ r₂ s₁ s₂ p q = p ∙ sym q
 
-pub joins-of-same : Same 0 joins-of-kinds.ps joins-of-kinds.r joins-of-reads.Post
-    (λ κs r₁ r₂ s₁ s₂. r₁ ≡ r₂)
+pub joins-of-same : SameAnswer 0 joins-of-kinds.ps joins-of-kinds.r joins-of-reads.Post
 joins-of-same κs a r₁ r₂ s₁ s₂ p q = p ∙ sym q
 
-pub entry-of-same : Same 0 entry-of-kinds.ps entry-of-kinds.r entry-of-reads.Post
-    (λ κs r₁ r₂ s₁ s₂. r₁ ≡ r₂)
+pub entry-of-same : SameAnswer 0 entry-of-kinds.ps entry-of-kinds.r entry-of-reads.Post
 entry-of-same κs a r₁ r₂ s₁ s₂ p q = p ∙ sym q
 
 pub row-part-same : Same 1 row-part-kinds.ps row-part-kinds.r row-part-reads.Post
     (λ κs r₁ r₂ s₁ s₂. (now r₁ ≡ now r₂) × (ptr r₁ ≡ ptr r₂))
 row-part-same κs a r₁ r₂ s₁ s₂ p q = (p .0 ∙ sym (q .0), p .1 ∙ sym (q .1))
 
-pub check-rows-same : Same 2 check-rows-kinds.ps check-rows-kinds.r check-rows-reads.Post
-    (λ κs r₁ r₂ s₁ s₂. r₁ ≡ r₂)
+pub check-rows-same : SameAnswer 2 check-rows-kinds.ps check-rows-kinds.r check-rows-reads.Post
 check-rows-same κs a r₁ r₂ s₁ s₂ p q = p ∙ sym q
 
-pub check-row-same : Same 2 check-row-kinds.ps check-row-kinds.r check-row-reads.Post
-    (λ κs r₁ r₂ s₁ s₂. r₁ ≡ r₂)
+pub check-row-same : SameAnswer 2 check-row-kinds.ps check-row-kinds.r check-row-reads.Post
 check-row-same κs a r₁ r₂ s₁ s₂ p q = p ∙ sym q
 
-pub pair-same : Same 2 pair-kinds.ps pair-kinds.r pair-reads.Post
-    (λ κs r₁ r₂ s₁ s₂. r₁ ≡ r₂)
+pub pair-same : SameAnswer 2 pair-kinds.ps pair-kinds.r pair-reads.Post
 pair-same κs a r₁ r₂ s₁ s₂ p q = p .0 ∙ sym (q .0)
 
 pub row-same : Same 2 row-kinds.ps row-kinds.r row-reads.Post
     (λ κs r₁ r₂ s₁ s₂. (now r₁ ≡ now r₂) × (ptr r₁ ≡ ptr r₂))
 row-same κs a r₁ r₂ s₁ s₂ p q = (p .0 ∙ sym (q .0), p .1 ∙ sym (q .1))
 
-pub spread-same : Same 2 spread-kinds.ps spread-kinds.r spread-reads.Post
-    (λ κs r₁ r₂ s₁ s₂. r₁ ≡ r₂)
+pub spread-same : SameAnswer 2 spread-kinds.ps spread-kinds.r spread-reads.Post
 spread-same κs a r₁ r₂ s₁ s₂ p q = p .0 ∙ sym (q .0)
