@@ -1,0 +1,14 @@
+-- What "any two outcomes allowed are equal" says of a contract: the function's own postcondition, twice, from the same
+-- arguments. Nothing of a contract is repeated here.
+use Prim.Native.Nat.{ℕ}
+use mathlib.Core.List.{List}
+use contract.Lifetimes.{Lfts}
+use borrow.Fn.Kinds.{PK, RK, Out, Dens, endedOf, resT}
+use denote.Triple.Clauses.{AtExit}
+
+-- two outcomes that the contract `post` allows, each an answer and what is found at exit, agree
+abbrev pub Same : (m : ℕ) (ps : List (PK m)) (rk : RK m) → Out m ps rk
+    → ((κs : Lfts m) (r₁ r₂ : resT rk κs .Denot) (s₁ s₂ : AtExit (endedOf m ps rk) κs) → Type 0) → Type 0
+Same m ps rk post agree =
+    (κs : Lfts m) (a : Dens κs ps) (r₁ r₂ : resT rk κs .Denot) (s₁ s₂ : AtExit (endedOf m ps rk) κs)
+    → post κs a r₁ s₁ → post κs a r₂ s₂ → agree κs r₁ r₂ s₁ s₂
