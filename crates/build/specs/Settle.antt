@@ -60,8 +60,16 @@ gain rank mark x = cond (isKept mark) (x ++ ((rank, mark - 1) ∷ [])) x
 unfoldable pub rowsAfter : ℕ → ℕ → List ℕ → List ℕ → List ℕ → ℕ → Row
 rowsAfter w rank labels counts met v = gain rank (getD met v 0) (rowsIn w labels counts v)
 
--- row v lies in the label room, and has room for an entry if the mark says kept
+-- the two rooms after it
+abbrev pub labelsAfter : ℕ → ℕ → List ℕ → List ℕ → List ℕ → List ℕ
+labelsAfter w rank labels counts met = labelsOf (length met) w (rowsAfter w rank labels counts met)
+
+abbrev pub countsAfter : ℕ → ℕ → List ℕ → List ℕ → List ℕ → List ℕ
+countsAfter w rank labels counts met = countsOf (length met) (rowsAfter w rank labels counts met)
+
+-- v is met, its row lies in the label room, and has room for an entry if the mark says kept
 pub record GiveIn (w v mark : ℕ) (labels counts : List ℕ) : Type 0 where
+  pub met : 0 < mark
   pub inside : v < length counts
   pub long : length labels ≡ length counts * w
   pub width : w ≤ 256

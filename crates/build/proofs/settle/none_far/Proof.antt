@@ -4,7 +4,6 @@ use Prim.Native.Nat.{ℕ, _+_, _-_, _*_, _≤_, _<_}
 use mathlib.Core.Path.{_≡_, refl, sym, ap, _∙_}
 use mathlib.Core.Bool.{Bool, true, false}
 use native.Mathlib.Omega.{arith}
-use borrow.Author.Needs.{needs}
 use borrow.Author.Count.{below-more}
 use lib.ListN.{length, getD}
 use Rattle.build.specs.Settle.{isFar}
@@ -28,25 +27,25 @@ shared-slice-read-v : tie.Need-shared-slice-read-v Inv-loop μ-loop
 shared-slice-read-v c = omega arith
 
 cast-v : tie.Need-cast-v Inv-loop μ-loop
-cast-v c = omega (arith, c .shared-slice-known3 .given (c .before .before .loop .i))
+cast-v c = omega (arith, c .shared-slice-known3 .given (c .before .before .loop .at))
 
 mul-is-far : tie.Need-mul-is-far Inv-loop μ-loop
-mul-is-far c = omega (arith, c .before .before .before .before .before .pre .low (c .before .before .loop .i) (c .before .loop-test .taken))
+mul-is-far c = omega (arith, c .before .before .before .before .before .pre .low (c .before .before .loop .at) (c .before .loop-test .taken))
 
 shared-slice-read-is-far : tie.Need-shared-slice-read-is-far Inv-loop μ-loop
-shared-slice-read-is-far c = c .before .before .before .before .before .before .pre .low (c .before .before .before .loop .i) (c .before .before .loop-test .taken)
+shared-slice-read-is-far c = c .before .before .before .before .before .before .pre .low (c .before .before .before .loop .at) (c .before .before .loop-test .taken)
 
 is-far-requires : tie.Need-is-far-requires Inv-loop μ-loop
-is-far-requires c κs = search needs
+is-far-requires c κs = c .before .before .before .before .before .before .pre .marked (c .before .before .before .loop .at) (c .before .before .loop-test .taken)
 
 returns : tie.Need-returns Inv-loop μ-loop
 returns c =
     sym
-    (far-not (c .before .before .before .before .before .before .before .before .args .met .now) (c .before .before .before .before .before .before .before .before .args .queue .now) (c .before .before .before .before .before .before .before .before .args .tail) (c .before .before .before .before .before .before .before .before .pre) (c .before .before .before .before .before .loop .i) (c .before .before .before .before .loop-test .taken)
+    (far-not (c .before .before .before .before .before .before .before .before .args .met .now) (c .before .before .before .before .before .before .before .before .args .queue .now) (c .before .before .before .before .before .before .before .before .args .tail) (c .before .before .before .before .before .before .before .before .pre) (c .before .before .before .before .before .loop .at) (c .before .before .before .before .loop-test .taken)
     (sym (c .before .is-far .ensures) ∙ c .if1 .taken))
 
-add-i : tie.Need-add-i Inv-loop μ-loop
-add-i c = omega arith
+add-at : tie.Need-add-at Inv-loop μ-loop
+add-at c = omega arith
 
 loop-less : tie.Need-loop-less Inv-loop μ-loop
 loop-less c = omega arith
@@ -74,7 +73,7 @@ none-far-spec =
     shared-slice-read-is-far
     is-far-requires
     returns
-    add-i
+    add-at
     loop-less
     loop-again
     returns-2)
