@@ -1,5 +1,4 @@
 // One build of a block, and every pair's answer held against the least sums of the searches.
-use crate::room::get;
 use crate::say;
 use crate::search::NONE;
 use crate::search::sum_of;

@@ -3,7 +3,7 @@
 use crate::compare::is_equal;
 use crate::draw::below;
 use crate::draw::roll;
-use crate::draw::shuffle;
+use crate::order::fill_order;
 use crate::room::get;
 use crate::room::push;
 use crate::say;
@@ -11,8 +11,7 @@ use crate::search::search_from;
 use crate::tally::Tally;
 use build::Built;
 use build::build;
-use links::order_by_degree;
-use refusal::Verdict;
+use refusal::Refusal;
 use rows::entry::Entry;
 use rows::pair::pair;
 
@@ -96,19 +95,37 @@ fn compare_sources(
     tally
 }
 
-// The entries of the build, and the pairs compared.
-fn report(entries: usize, tally: Tally) {
-    say::field(b"grid shuffled entries ", entries);
-    say::field(b" pairs ", tally.pairs);
-    if tally.is_equal {
-        say::text(b"\nall equal\n");
+// Which order it is, before what came of it.
+fn announce(is_random: bool) {
+    if is_random {
+        say::text(b"grid shuffled");
     } else {
-        say::text(b"\n");
+        say::text(b"grid by degree");
     }
 }
 
-// The grid in a random order: a build with every hub, and its answers.
-fn try_shuffled(
+// The entries of a build, and the pairs compared.
+fn report(is_random: bool, entries: usize, tally: Tally) {
+    announce(is_random);
+    say::field(b" entries ", entries);
+    say::field(b" pairs ", tally.pairs);
+    if tally.is_equal {
+        say::text(b"\nall equal");
+    }
+    say::text(b"\n");
+}
+
+// The refusal of a build.
+fn report_refusal(is_random: bool, refusal: Refusal) {
+    announce(is_random);
+    say::field(b" refused ", refusal.number as usize);
+    say::field(b" at ", refusal.place);
+    say::text(b"\n");
+}
+
+// The grid in one order: a build with every hub, and its answers or its refusal.
+fn try_grid(
+    is_random: bool,
     starts: &[u32],
     places: &[u32],
     order: &mut [u32],
@@ -117,7 +134,7 @@ fn try_shuffled(
     met: &mut [u32],
     queue: &mut [u32],
 ) {
-    shuffle(order, FRAMES, 64);
+    fill_order(is_random, FRAMES, 64, starts, places, order);
     let built = build(
         FRAMES,
         WIDTH,
@@ -133,49 +150,10 @@ fn try_shuffled(
     match built {
         Built::Entries(entries) => {
             let tally = compare_sources(starts, places, labels, counts, met, queue);
-            report(entries, tally);
+            report(is_random, entries, tally);
         }
-        Built::Refused(refusal) => {
-            say::refusal(FRAMES, FRAMES, refusal.number, refusal.place);
-        }
+        Built::Refused(refusal) => report_refusal(is_random, refusal),
     }
-}
-
-// The grid in the order by degree: what the build says.
-fn try_by_degree(
-    starts: &[u32],
-    places: &[u32],
-    order: &mut [u32],
-    labels: &mut [Entry],
-    counts: &mut [u32],
-    met: &mut [u32],
-    queue: &mut [u32],
-) {
-    let ordered = order_by_degree(FRAMES, starts, places, order);
-    if let Verdict::Refused(refusal) = ordered {
-        say::refusal(FRAMES, 0, refusal.number, refusal.place);
-        return;
-    }
-    let built = build(
-        FRAMES,
-        WIDTH,
-        FRAMES,
-        starts,
-        places,
-        order,
-        labels,
-        counts,
-        met,
-        queue,
-    );
-    match built {
-        Built::Entries(entries) => say::field(b"grid by degree entries ", entries),
-        Built::Refused(refusal) => {
-            say::field(b"grid by degree refused ", refusal.number as usize);
-            say::field(b" at ", refusal.place);
-        }
-    }
-    say::text(b"\n");
 }
 
 fn run(
@@ -188,8 +166,8 @@ fn run(
     queue: &mut [u32],
 ) {
     lay_grid(starts, places);
-    try_shuffled(starts, places, order, labels, counts, met, queue);
-    try_by_degree(starts, places, order, labels, counts, met, queue);
+    try_grid(true, starts, places, order, labels, counts, met, queue);
+    try_grid(false, starts, places, order, labels, counts, met, queue);
 }
 
 // Lends the label room on.

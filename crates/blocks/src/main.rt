@@ -5,6 +5,8 @@
 mod compare;
 mod draw;
 mod grid;
+mod kinds;
+mod order;
 mod random;
 mod room;
 mod say;

@@ -3,11 +3,11 @@
 use crate::compare::try_stop;
 use crate::draw::SIDE;
 use crate::draw::below;
-use crate::draw::draw;
-use crate::draw::draw_path;
-use crate::draw::lay;
 use crate::draw::roll;
-use crate::draw::shuffle;
+use crate::kinds::make_block;
+use crate::kinds::size_of;
+use crate::kinds::width_of;
+use crate::order::fill_order;
 use crate::room::fill;
 use crate::room::front;
 use crate::room::get;
@@ -17,74 +17,13 @@ use crate::search::NONE;
 use crate::search::lower_sums;
 use crate::search::search_from;
 use crate::tally::Tally;
-use links::order_by_degree;
-use refusal::Verdict;
 use rows::entry::Entry;
 
 // Blocks compared.
 const BLOCKS: usize = 300;
 
-// Frames of a block: every size once, then small ones.
-fn size_of(block: usize, seed: u64) -> usize {
-    if block <= SIDE {
-        return block;
-    }
-    1 + below(seed, 40)
-}
-
-// Most entries of a row: n for three blocks of four, else a few.
-fn width_of(block: usize, n: usize, seed: u64) -> usize {
-    if block % 4 == 3 {
-        let few = 1 + below(seed, 16);
-        if few < n {
-            return few;
-        }
-    }
-    n
-}
-
-// Draws a block of one of six kinds.
-fn draw_kind(marks: &mut [u32], n: usize, kind: usize, seed: u64) {
-    fill(marks, 0);
-    if SIDE < n {
-        return;
-    }
-    if kind == 0 {
-        draw_path(marks, n);
-        return;
-    }
-    if kind == 1 {
-        draw_path(marks, n);
-        draw(marks, n, n / 8, seed);
-        return;
-    }
-    if kind == 2 {
-        draw(marks, n, n / 2, seed);
-        return;
-    }
-    if kind == 3 {
-        draw(marks, n, n, seed);
-        return;
-    }
-    if kind == 4 {
-        draw(marks, n, n * 3, seed);
-        return;
-    }
-    draw(marks, n, n * 30, seed);
-}
-
-// Start positions and lists of a random block; how many neighbour places there are.
-fn make_block(
-    n: usize,
-    kind: usize,
-    seed: u64,
-    marks: &mut [u32],
-    starts: &mut [u32],
-    places: &mut [u32],
-) -> usize {
-    draw_kind(marks, n, kind, seed);
-    lay(marks, n, starts, places)
-}
+// Each block is tried in both orders, in turn 2 * block and in the next: turns 2 to 601.
+const TURNS: usize = 602;
 
 // One stop of one block: a build held against the sums of the hubs so far, then the hub of rank k taken into the sums. The
 // work rooms are lent to the build as the search left them.
@@ -172,124 +111,38 @@ fn try_order(
     )
 }
 
-// One block in a random order.
-fn try_shuffled(
+// Fills the order of a block: at random or by degree.
+fn order_block(
+    is_random: bool,
     n: usize,
-    w: usize,
+    last: usize,
     seed: u64,
     starts: &[u32],
     places: &[u32],
     order: &mut [u32],
-    labels: &mut [Entry],
-    counts: &mut [u32],
-    met: &mut [u32],
-    queue: &mut [u32],
-    sums: &mut [u32],
-    before: Tally,
-) -> Tally {
-    shuffle(order, n, seed);
-    try_order(
-        n,
-        w,
-        starts,
-        places,
-        order,
-        labels,
-        counts,
-        met,
-        queue,
-        sums,
-        before,
-    )
-}
-
-// One block in the order by degree.
-fn try_by_degree(
-    n: usize,
-    w: usize,
-    starts: &[u32],
-    places: &[u32],
-    order: &mut [u32],
-    labels: &mut [Entry],
-    counts: &mut [u32],
-    met: &mut [u32],
-    queue: &mut [u32],
-    sums: &mut [u32],
-    before: Tally,
-) -> Tally {
-    let ordered = order_by_degree(n, starts, places, order);
-    if let Verdict::Refused(refusal) = ordered {
-        say::refusal(n, 0, refusal.number, refusal.place);
-        return before.unequal();
+) {
+    if SIDE < n {
+        return;
     }
-    try_order(
+    let ends = n + 1;
+    fill_order(
+        is_random,
         n,
-        w,
-        starts,
-        places,
-        order,
-        labels,
-        counts,
-        met,
-        queue,
-        sums,
-        before,
-    )
-}
-
-// One block in both orders.
-fn try_orders(
-    n: usize,
-    w: usize,
-    seed: u64,
-    starts: &[u32],
-    places: &[u32],
-    order: &mut [u32],
-    labels: &mut [Entry],
-    counts: &mut [u32],
-    met: &mut [u32],
-    queue: &mut [u32],
-    sums: &mut [u32],
-    before: Tally,
-) -> Tally {
-    let tally = try_shuffled(
-        n,
-        w,
         seed,
-        starts,
-        places,
-        order,
-        labels,
-        counts,
-        met,
-        queue,
-        sums,
-        before,
+        part(starts, ends),
+        part(places, last),
+        front(order, n),
     );
-    try_by_degree(
-        n,
-        w,
-        starts,
-        places,
-        order,
-        labels,
-        counts,
-        met,
-        queue,
-        sums,
-        tally,
-    )
 }
 
-// Cuts the rooms to the block's lengths.
+// Tries a block in the order that is filled, its rooms cut to the block's lengths.
 fn try_block(
     n: usize,
     w: usize,
     last: usize,
-    seed: u64,
-    starts: &mut [u32],
-    places: &mut [u32],
-    order: &mut [u32],
+    starts: &[u32],
+    places: &[u32],
+    order: &[u32],
     labels: &mut [Entry],
     counts: &mut [u32],
     met: &mut [u32],
@@ -305,13 +158,12 @@ fn try_block(
     }
     let ends = n + 1;
     let size = n * w;
-    try_orders(
+    try_order(
         n,
         w,
-        seed,
         part(starts, ends),
         part(places, last),
-        front(order, n),
+        part(order, n),
         front(labels, size),
         front(counts, n),
         front(met, n),
@@ -321,9 +173,10 @@ fn try_block(
     )
 }
 
-// Draws and tries one block.
+// Draws one block and tries it in one order.
 fn run_block(
     block: usize,
+    is_random: bool,
     marks: &mut [u32],
     starts: &mut [u32],
     places: &mut [u32],
@@ -342,11 +195,11 @@ fn run_block(
     let w = width_of(block, n, two);
     let kind = below(three, 6);
     let last = make_block(n, kind, three, marks, starts, places);
+    order_block(is_random, n, last, three / 2, starts, places, order);
     try_block(
         n,
         w,
         last,
-        three / 2,
         starts,
         places,
         order,
@@ -372,10 +225,12 @@ fn run(
     sums: &mut [u32],
 ) {
     let mut tally = Tally::new();
-    let mut block = 1;
-    while block <= BLOCKS {
+    let mut turn = 2;
+    while turn < TURNS {
+        let is_random = turn % 2 == 0;
         tally = run_block(
-            block,
+            turn / 2,
+            is_random,
             marks,
             starts,
             places,
@@ -387,7 +242,7 @@ fn run(
             sums,
             tally,
         );
-        block += 1;
+        turn += 1;
     }
     report(tally);
 }

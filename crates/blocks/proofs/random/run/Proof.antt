@@ -1,4 +1,4 @@
--- Invariant: the rooms keep their lengths. Each turn is one block on, up to 300.
+-- Invariant: the rooms keep their lengths. Each turn is one on, up to the last.
 use Prim.Native.Nat.{_-_}
 use mathlib.Core.Path.{_≡_}
 use borrow.Author.Needs.{needs}
@@ -7,14 +7,16 @@ use Rattle.blocks.proofs.random.run.Statement.{statement}
 use Rattle.blocks.proofs.random.run.Tie as tie
 
 abbrev Inv-loop : tie.InvT-loop
-Inv-loop marks₀ starts₀ places₀ order₀ labels₀ counts₀ met₀ queue₀ sums₀ tally₀ block₀ marks starts places order labels counts met queue sums tally block =
+Inv-loop marks₀ starts₀ places₀ order₀ labels₀ counts₀ met₀ queue₀ sums₀ tally₀ turn₀
+    marks starts places order labels counts met queue sums tally turn =
     (length marks ≡ length marks₀) × (length starts ≡ length starts₀) × (length places ≡ length places₀) ×
     (length order ≡ length order₀) × (length labels ≡ length labels₀) × (length counts ≡ length counts₀) ×
     (length met ≡ length met₀) × (length queue ≡ length queue₀) × (length sums ≡ length sums₀)
 
 abbrev μ-loop : tie.MeasureT-loop
-μ-loop marks₀ starts₀ places₀ order₀ labels₀ counts₀ met₀ queue₀ sums₀ tally₀ block₀ marks starts places order labels counts met queue sums tally block =
-    301 - block
+μ-loop marks₀ starts₀ places₀ order₀ labels₀ counts₀ met₀ queue₀ sums₀ tally₀ turn₀
+    marks starts places order labels counts met queue sums tally turn =
+    602 - turn
 
 new-requires : tie.Need-new-requires Inv-loop μ-loop
 new-requires c κs = search needs
@@ -25,8 +27,8 @@ loop-holds c = search needs
 run-block-requires : tie.Need-run-block-requires Inv-loop μ-loop
 run-block-requires c κs = search needs
 
-add-block : tie.Need-add-block Inv-loop μ-loop
-add-block c = search needs
+add-turn : tie.Need-add-turn Inv-loop μ-loop
+add-turn c = search needs
 
 loop-less : tie.Need-loop-less Inv-loop μ-loop
 loop-less c = search needs
@@ -76,7 +78,7 @@ run-spec =
     new-requires
     loop-holds
     run-block-requires
-    add-block
+    add-turn
     loop-less
     loop-again
     report-requires

@@ -25,6 +25,9 @@ part-requires c κs = search needs
 part-requires-2 : tie.Need-part-requires-2
 part-requires-2 c κs = search needs
 
+part-requires-3 : tie.Need-part-requires-3
+part-requires-3 c κs = search needs
+
 front-requires : tie.Need-front-requires
 front-requires c κs = search needs
 
@@ -37,11 +40,8 @@ front-requires-3 c κs = search needs
 front-requires-4 : tie.Need-front-requires-4
 front-requires-4 c κs = search needs
 
-front-requires-5 : tie.Need-front-requires-5
-front-requires-5 c κs = search needs
-
-try-orders-requires : tie.Need-try-orders-requires
-try-orders-requires c κs = search needs
+try-order-requires : tie.Need-try-order-requires
+try-order-requires c κs = search needs
 
 same-length : tie.Need-same-length
 same-length c = search needs
@@ -58,15 +58,6 @@ same-length-4 c = search needs
 same-length-5 : tie.Need-same-length-5
 same-length-5 c = search needs
 
-same-length-6 : tie.Need-same-length-6
-same-length-6 c = search needs
-
-same-length-7 : tie.Need-same-length-7
-same-length-7 c = search needs
-
-same-length-8 : tie.Need-same-length-8
-same-length-8 c = search needs
-
 returns-3 : tie.Need-returns-3
 returns-3 c = search needs
 
@@ -80,18 +71,15 @@ try-block-spec =
     mul-size
     part-requires
     part-requires-2
+    part-requires-3
     front-requires
     front-requires-2
     front-requires-3
     front-requires-4
-    front-requires-5
-    try-orders-requires
+    try-order-requires
     same-length
     same-length-2
     same-length-3
     same-length-4
     same-length-5
-    same-length-6
-    same-length-7
-    same-length-8
     returns-3)

@@ -7,12 +7,14 @@ use Rattle.blocks.proofs.random.try_order.Statement.{statement}
 use Rattle.blocks.proofs.random.try_order.Tie as tie
 
 abbrev Inv-loop : tie.InvT-loop
-Inv-loop n w starts places order labels₀ counts₀ met₀ queue₀ sums₀ tally₀ k₀ labels counts met queue sums tally k =
+Inv-loop n w starts places order labels₀ counts₀ met₀ queue₀ sums₀ tally₀ k₀
+    labels counts met queue sums tally k =
     (n < 18446744073709551616) × (length labels ≡ length labels₀) × (length counts ≡ length counts₀) ×
     (length met ≡ length met₀) × (length queue ≡ length queue₀) × (length sums ≡ length sums₀)
 
 abbrev μ-loop : tie.MeasureT-loop
-μ-loop n w starts places order labels₀ counts₀ met₀ queue₀ sums₀ tally₀ k₀ labels counts met queue sums tally k =
+μ-loop n w starts places order labels₀ counts₀ met₀ queue₀ sums₀ tally₀ k₀
+    labels counts met queue sums tally k =
     n - k
 
 fill-requires : tie.Need-fill-requires Inv-loop μ-loop
