@@ -1,8 +1,9 @@
 #!/usr/bin/env python3
-"""What the program `blocks` must print, from the paper's rules alone. The same random blocks are drawn anew and their builds
-and pairs are counted. No walk is made: a build is refused exactly where the row rule, over plain distances, gives some frame
-over W entries. On the grid the frames on a shortest chain between two frames are those of the rectangle that the two span, so a
-row holds the hubs of lowest rank in theirs. Run by hand: python3 expected.py"""
+"""Prints what crates/blocks must print, from the paper alone: the same random blocks drawn anew, their builds and pairs
+counted. No walk is made: a build is refused exactly where the row rule, over plain breadth-first counts, gives some frame over W
+entries. On the grid the frames on a shortest chain between two frames are those of the rectangle that the two span, so that a row
+holds the hubs that have the lowest rank in theirs. Run it at the root: python3 tools/blocks.py > crates/blocks/stdout
+"""
 from collections import deque
 
 P, BLOCKS, SIDE = 2147483647, 300, 200
