@@ -6,7 +6,7 @@ use mathlib.Core.Bool.{Bool, true, false, cond, not, _&&_}
 use mathlib.Core.List.{List, [], _∷_, _++_}
 use native.Mathlib.Omega.{arith}
 use borrow.Author.Tests.{lt-ltb, le-ltb, ltb-true, ltb-false}
-use lib.ListN.{length, getD}
+use lib.ListN.{length, getD, replicate}
 use lib.Dec.{leb, ltb}
 use Rattle.basics.specs.Places.{some, least}
 use Rattle.basics.proofs.Laws.{bcase, lt-or-ge, same-truth, cond-true, cond-false, some-ext, least-most, length-table, getD-table}
@@ -16,7 +16,7 @@ use Rattle.theory.specs.Walk.{levels, walkRow}
 use Rattle.theory.specs.Plain.{joined}
 use Rattle.build.specs.Build.{labelsOf, countsOf}
 use Rattle.build.specs.Walk.{soFar, levelOf, kept, mark, metRoom, walkFits}
-use Rattle.build.specs.Settle.{rowsIn, isKept, lacksRoom, isFar, fitsAll, nearAll, gain, rowsAfter, settleOf, walkedRows, walkNear, walkOf}
+use Rattle.build.specs.Settle.{rowsIn, isKept, lacksRoom, isFar, fitsAll, noneFar, gain, rowsAfter, settleOf, walkedRows, walkNear, walkOf, ifMade, WalkOut}
 use Rattle.build.specs.declared.settle.Walked.{Walked}
 use Rattle.build.specs.declared.settle.Walked.the-variants.{Made, Full, Far}
 use Rattle.build.proofs.RoomLaws.{labels-ext, counts-ext}
@@ -78,7 +78,7 @@ module _ (most level answered : ℕ) (few : most < 65535) (cap : answered ≤ mo
 -- ---- the whole met room
 
 module _ (n w : ℕ) (S L labels counts : List ℕ) (hub : ℕ) (frames : n ≤ 4096) where
-  pub length-met : length (metRoom n w S L labels counts hub) ≡ n
+  length-met : length (metRoom n w S L labels counts hub) ≡ n
   unfolding metRoom
   length-met =
       length-table n (λ v. mark (far 1 n) (levelOf n w S L labels counts hub v) (soFar n w labels counts hub v))
@@ -108,9 +108,9 @@ module _ (n w : ℕ) (S L labels counts : List ℕ) (hub : ℕ) (frames : n ≤ 
       ap (lacksRoom w (getD counts v 0)) (met-at v (omega arith))
       ∙ lacks-is (far 1 n) (levelOf n w S L labels counts hub v) (soFar n w labels counts hub v) few (so-far-cap v) w (getD counts v 0))))
 
-  near-is : nearAll (metRoom n w S L labels counts hub) ≡ walkNear n w S L labels counts hub
-  unfolding nearAll walkNear kept
-  near-is =
+  none-far-is : noneFar (metRoom n w S L labels counts hub) ≡ walkNear n w S L labels counts hub
+  unfolding noneFar walkNear kept
+  none-far-is =
       rw length-met
       (ap not
       (some-ext _
@@ -119,14 +119,14 @@ module _ (n w : ℕ) (S L labels counts : List ℕ) (hub : ℕ) (frames : n ≤ 
       ap isFar (met-at v (omega arith))
       ∙ far-is (far 1 n) (levelOf n w S L labels counts hub v) (soFar n w labels counts hub v) few (so-far-cap v))))
 
-  pub settle-is : settleOf w counts (metRoom n w S L labels counts hub) ≡ walkOf n w S L labels counts hub
+  settle-is : settleOf w counts (metRoom n w S L labels counts hub) ≡ walkOf n w S L labels counts hub
   unfolding settleOf walkOf
   settle-is =
-      ap (λ (b : Bool). cond b (cond (nearAll (metRoom n w S L labels counts hub)) Made Far) Full) fits-is
-      ∙ ap (λ (b : Bool). cond (walkFits n w S L labels counts hub) (cond b Made Far) Full) near-is
+      ap (λ (b : Bool). cond b (cond (noneFar (metRoom n w S L labels counts hub)) Made Far) Full) fits-is
+      ∙ ap (λ (b : Bool). cond (walkFits n w S L labels counts hub) (cond b Made Far) Full) none-far-is
 
   -- the rows stored are those after the walk
-  pub rows-are : (rank v : ℕ) → v < n
+  rows-are : (rank v : ℕ) → v < n
       → rowsAfter w rank labels counts (metRoom n w S L labels counts hub) v ≡ walkedRows n w S L labels counts rank hub v
   unfolding rowsAfter walkedRows walkRow levelOf soFar rowsIn
   rows-are rank v h =
@@ -139,19 +139,35 @@ module _ (n w : ℕ) (S L labels counts : List ℕ) (hub : ℕ) (frames : n ≤ 
     pub met-long : length met ≡ n
     met-long = ap length is ∙ length-met
 
-    pub settled-is : settleOf w counts met ≡ walkOf n w S L labels counts hub
+    settled-is : settleOf w counts met ≡ walkOf n w S L labels counts hub
     settled-is = ap (settleOf w counts) is ∙ settle-is
 
     after-is : (rank v : ℕ) → v < n → rowsAfter w rank labels counts met v ≡ walkedRows n w S L labels counts rank hub v
     after-is rank v h = ap (λ (m : List ℕ). rowsAfter w rank labels counts m v) is ∙ rows-are rank v h
 
-    pub stored-labels : (rank : ℕ) → 1 ≤ w → labelsOf (length met) w (rowsAfter w rank labels counts met)
+    stored-labels : (rank : ℕ) → 1 ≤ w → labelsOf (length met) w (rowsAfter w rank labels counts met)
         ≡ labelsOf n w (walkedRows n w S L labels counts rank hub)
     stored-labels rank wide =
         rw met-long
         (labels-ext n w (rowsAfter w rank labels counts met) (walkedRows n w S L labels counts rank hub) wide (after-is rank))
 
-    pub stored-counts : (rank : ℕ) → countsOf (length met) (rowsAfter w rank labels counts met)
+    stored-counts : (rank : ℕ) → countsOf (length met) (rowsAfter w rank labels counts met)
         ≡ countsOf n (walkedRows n w S L labels counts rank hub)
     stored-counts rank =
         rw met-long (counts-ext n (rowsAfter w rank labels counts met) (walkedRows n w S L labels counts rank hub) (after-is rank))
+
+    -- what the second half leaves, told by levels
+    pub walk-left : (rank : ℕ) → 1 ≤ w → (walked : Walked) (labels′ counts′ met′ queue′ : List ℕ)
+        → walked ≡ settleOf w counts met
+        → labels′ ≡ ifMade walked (labelsOf (length met) w (rowsAfter w rank labels counts met)) labels
+        → counts′ ≡ ifMade walked (countsOf (length met) (rowsAfter w rank labels counts met)) counts
+        → met′ ≡ replicate (length met) 0 → queue′ ≡ replicate (length met) 0
+        → WalkOut n w S L labels counts rank hub walked labels′ counts′ met′ queue′
+    walk-left rank wide walked labels′ counts′ met′ queue′ answer rows numbers m q =
+        record {
+          answer = answer ∙ settled-is;
+          rows = rows ∙ ap (λ (l : List ℕ). ifMade walked l labels) (stored-labels rank wide);
+          numbers = numbers ∙ ap (λ (l : List ℕ). ifMade walked l counts) (stored-counts rank);
+          met-zero = m ∙ ap (λ (j : ℕ). replicate j 0) met-long;
+          queue-zero = q ∙ ap (λ (j : ℕ). replicate j 0) met-long;
+        }

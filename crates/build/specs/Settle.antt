@@ -49,8 +49,8 @@ unfoldable pub fitsAll : ℕ → List ℕ → List ℕ → Bool
 fitsAll w counts met = not (some (λ v. lacksRoom w (getD counts v 0) (getD met v 0)) 0 (length met))
 
 -- no kept frame has over 4,095 joins
-unfoldable pub nearAll : List ℕ → Bool
-nearAll met = not (some (λ v. isFar (getD met v 0)) 0 (length met))
+unfoldable pub noneFar : List ℕ → Bool
+noneFar met = not (some (λ v. isFar (getD met v 0)) 0 (length met))
 
 -- the row with (rank, level) behind it where the mark says kept, else the row itself
 unfoldable pub gain : ℕ → ℕ → Row → Row
@@ -60,15 +60,23 @@ gain rank mark x = cond (isKept mark) (x ++ ((rank, mark - 1) ∷ [])) x
 unfoldable pub rowsAfter : ℕ → ℕ → List ℕ → List ℕ → List ℕ → ℕ → Row
 rowsAfter w rank labels counts met v = gain rank (getD met v 0) (rowsIn w labels counts v)
 
--- row v lies in the label room, and has room for an entry if the mark says kept
+-- the two rooms after it
+abbrev pub labelsAfter : ℕ → ℕ → List ℕ → List ℕ → List ℕ → List ℕ
+labelsAfter w rank labels counts met = labelsOf (length met) w (rowsAfter w rank labels counts met)
+
+abbrev pub countsAfter : ℕ → ℕ → List ℕ → List ℕ → List ℕ → List ℕ
+countsAfter w rank labels counts met = countsOf (length met) (rowsAfter w rank labels counts met)
+
+-- v is met, its row lies in the label room, and has room for an entry if the mark says kept
 pub record GiveIn (w v mark : ℕ) (labels counts : List ℕ) : Type 0 where
+  pub met : 0 < mark
   pub inside : v < length counts
   pub long : length labels ≡ length counts * w
   pub width : w ≤ 256
   pub room : isKept mark ≡ true → getD counts v 0 < w
 
 -- the rooms as they have to be when phase two begins
-pub record SettleIn (w rank : ℕ) (labels counts met queue : List ℕ) (tail : ℕ) : Type 0 where
+pub record SettleIn (w : ℕ) (labels counts met queue : List ℕ) (tail : ℕ) : Type 0 where
   pub frames : length met ≤ 4096
   pub wide : 1 ≤ w
   pub width : w ≤ 256
@@ -78,7 +86,7 @@ pub record SettleIn (w rank : ℕ) (labels counts met queue : List ℕ) (tail : 
 -- the walk decides before it stores: ROOM first, then FAR
 unfoldable pub settleOf : ℕ → List ℕ → List ℕ → Walked
 settleOf w counts met =
-    let near : Walked = cond (nearAll met) Made Far in
+    let near : Walked = cond (noneFar met) Made Far in
     cond (fitsAll w counts met) near Full
 
 -- either the whole walk is made or rows and counts stay

@@ -13,8 +13,8 @@ fits-requires : tie.Need-fits-requires
 fits-requires c κs =
     (ap length (c .before .before .before .before .before .pre .laid .numbers) ∙ length-counts (length (c .before .before .before .before .before .args .met .now)) _, c .before .before .before .before .before .pre .queued)
 
-near-requires : tie.Need-near-requires
-near-requires c κs = search needs
+none-far-requires : tie.Need-none-far-requires
+none-far-requires c κs = search needs
 
 store-requires : tie.Need-store-requires
 store-requires c κs = (c .before .before .before .before .before .before .before .before .before .before .before .pre, sym (c .before .before .before .before .before .fits2 .ensures) ∙ c .before .before .before .before .if1 .taken)
@@ -30,7 +30,7 @@ unfolding ifMade
 returns c = (
   sym
       (settle-made (c .before .before .before .before .before .before .before .before .before .before .before .before .before .before .before .before .args .w) (c .before .before .before .before .before .before .before .before .before .before .before .before .before .before .before .before .args .counts .now) (c .before .before .before .before .before .before .before .before .before .before .before .before .before .before .before .before .args .met .now) (sym (c .before .before .before .before .before .before .before .before .before .before .fits2 .ensures) ∙ c .before .before .before .before .before .before .before .before .before .if1 .taken)
-      (sym (c .before .before .before .before .before .before .before .before .near .ensures) ∙ c .before .before .before .before .before .before .before .if2 .taken)),
+      (sym (c .before .before .before .before .before .before .before .before .none-far .ensures) ∙ c .before .before .before .before .before .before .before .if2 .taken)),
   (c .before .before .before .before .store .ensures .0, c .before .before .before .before .store .ensures .1),
 )
 
@@ -42,7 +42,7 @@ unfolding ifMade
 returns-2 c = (
   sym
       (settle-far (c .before .before .before .before .before .before .before .before .before .args .w) (c .before .before .before .before .before .before .before .before .before .args .counts .now) (c .before .before .before .before .before .before .before .before .before .args .met .now) (sym (c .before .before .before .fits2 .ensures) ∙ c .before .before .if1 .taken)
-      (sym (c .before .near .ensures) ∙ c .if2 .left)),
+      (sym (c .before .none-far .ensures) ∙ c .if2 .left)),
   (refl, refl),
 )
 
@@ -61,7 +61,7 @@ settle-spec =
     tie.close
     (tie.spec
     fits-requires
-    near-requires
+    none-far-requires
     store-requires
     same-length
     same-length-2
