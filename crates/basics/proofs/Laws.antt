@@ -346,3 +346,45 @@ set-cases l i j a d h =
 -- what is left shrinks by one
 pub less-one : {v n : ℕ} → v < n → n - v ≡ suc (n - (v + 1))
 less-one h = omega arith
+
+-- ---- a search from v up to an end, as a loop goes
+
+pub first-here : (marked : ℕ → Bool) (v end : ℕ) → v < end → marked v ≡ true → first marked v (end - v) ≡ v
+first-here marked v end h e = ap (first marked v) (less-one h) ∙ first-hit marked v (end - (v + 1)) e
+
+pub first-step : (marked : ℕ → Bool) (v end : ℕ) → v < end → marked v ≡ false
+    → first marked (v + 1) (end - (v + 1)) ≡ first marked v (end - v)
+first-step marked v end h e =
+    ap (λ (k : ℕ). first marked k (end - (v + 1))) (add-one v)
+    ∙ sym (ap (first marked v) (less-one h) ∙ first-miss marked v (end - (v + 1)) e)
+
+pub first-over : (marked : ℕ → Bool) (v end : ℕ) → end ≤ v → first marked v (end - v) ≡ v
+first-over marked v end h =
+    let none-left : end - v ≡ 0 = omega arith in
+    ap (first marked v) none-left ∙ first-end marked v
+
+pub some-here : (marked : ℕ → Bool) (v end : ℕ) → v < end → marked v ≡ true → some marked v (end - v) ≡ true
+some-here marked v end h e = ap (some marked v) (less-one h) ∙ some-hit marked v (end - (v + 1)) e
+
+pub some-step : (marked : ℕ → Bool) (v end : ℕ) → v < end → marked v ≡ false
+    → some marked (v + 1) (end - (v + 1)) ≡ some marked v (end - v)
+some-step marked v end h e =
+    ap (λ (k : ℕ). some marked k (end - (v + 1))) (add-one v)
+    ∙ sym (ap (some marked v) (less-one h) ∙ some-miss marked v (end - (v + 1)) e)
+
+pub some-over : (marked : ℕ → Bool) (v end : ℕ) → end ≤ v → some marked v (end - v) ≡ false
+some-over marked v end h =
+    let none-left : end - v ≡ 0 = omega arith in
+    ap (some marked v) none-left ∙ some-end marked v
+
+-- some place is marked exactly if the first marked place lies before the end
+pub some-first : (marked : ℕ → Bool) (a left : ℕ) → first marked a left < a + left → some marked a left ≡ true
+some-first marked a left h =
+    some-one marked a left (first marked a left) (first-low marked a left) h (first-marked marked a left h)
+
+pub none-first : (marked : ℕ → Bool) (a left : ℕ) → a + left ≤ first marked a left → some marked a left ≡ false
+none-first marked a left h = some-none marked a left (λ j low high. first-before marked a left j low (omega arith))
+
+-- a place that a search gave is not before its start
+pub found-low : (marked : ℕ → Bool) (a left : ℕ) {i : ℕ} → i ≡ first marked a left → a ≤ i
+found-low marked a left e = omega (arith, first-low marked a left)

@@ -1,2 +1,4 @@
 pub mod Walk
 pub mod Explore
+pub mod Build
+pub mod Settle

@@ -1,8 +1,9 @@
 -- The field list of the index file: the one place that says which fields it has, in which order and how wide. n frames,
 -- stop k, width w, order O, label room and count room.
-use Prim.Native.Nat.{ℕ, zero, suc, _+_, _-_, _*_}
+use Prim.Native.Nat.{ℕ, zero, suc, _-_, _<_}
+use mathlib.Core.Path.{_≡_}
 use mathlib.Core.List.{List, [], _∷_, _++_}
-use lib.ListN.{length, getD}
+use lib.ListN.{getD}
 use Rattle.rows.specs.Entry.{rankOf, joinsOf}
 use Rattle.rows.specs.Rooms.{rowAt}
 use Rattle.file.specs.Bits.{Field, field, packed}
@@ -37,3 +38,23 @@ fileFields n k w O labels counts = headerFields n k ++ (orderFields O ++ rowsFie
 -- the file's bytes
 unfoldable pub fileOf : ℕ → ℕ → ℕ → List ℕ → List ℕ → List ℕ → List ℕ
 fileOf n k w O labels counts = packed (fileFields n k w O labels counts)
+
+-- an index as it lies in the rooms
+pub record Stored : Type 0 where
+  pub frames : ℕ
+  pub stop : ℕ
+  pub width : ℕ
+  pub order : List ℕ
+  pub labels : List ℕ
+  pub counts : List ℕ
+
+abbrev pub stored : ℕ → ℕ → ℕ → List ℕ → List ℕ → List ℕ → Stored
+stored n k w O labels counts = record { frames = n; stop = k; width = w; order = O; labels = labels; counts = counts }
+
+-- two indexes are the same if n, k, the order, the counts and the used entries agree
+pub record Same (a b : Stored) : Type 0 where
+  pub frames : a .frames ≡ b .frames
+  pub stop : a .stop ≡ b .stop
+  pub order : a .order ≡ b .order
+  pub counts : a .counts ≡ b .counts
+  pub entries : (v : ℕ) → v < a .frames → rowAt (a .width) (a .labels) (a .counts) v ≡ rowAt (b .width) (b .labels) (b .counts) v

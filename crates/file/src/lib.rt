@@ -1,1 +1,126 @@
 // The index file: bit-packed fields, most significant first.
+mod put;
+mod widths;
+mod writer;
+
+ghost use mathlib.Core.Path.{_≡_};
+ghost use Rattle.file.specs.Writer.{wrote, writeOf};
+use refusal;
+use refusal::Refusal;
+use refusal::Verdict;
+use rows::entry::Entry;
+ghost use lib.ListN.{length};
+ghost use Rattle.file.specs.Reader.{framesOf, stopOf, headerTest, headerOf, readTest, outcome, readOf, told, tellOf};
+
+mod check;
+mod get;
+mod store;
+
+// What writing gives: the bytes filled, or a refusal.
+pub enum Written {
+    Bytes(usize),
+    Refused(Refusal),
+}
+
+// What opening a file gives: an index of n frames and stop k, or a refusal.
+pub enum Opened {
+    Index(usize, usize),
+    Refused(Refusal),
+}
+
+// How many rows of a file were whole, the bit behind them, and what came next: nothing, or the refusal of the next row.
+pub struct Whole {
+    pub rows: usize,
+    pub bit: usize,
+    pub verdict: Verdict,
+}
+
+// Writes the index file into a stretch of the output room from byte `start` on; bytes outside the stretch stay.
+pub fn write(
+    n: usize,
+    w: usize,
+    k: usize,
+    order: &[u32],
+    labels: &[Entry],
+    counts: &[u32],
+    out: &mut [u8],
+    start: usize,
+) -> Written
+    ensures { λ r. ⌜
+        wrote r (now (out .exit))
+        ≡ writeOf n k w (now (order .entry)) (now (labels .entry)) (now (counts .entry)) (now (out .entry)) start
+        ⌝ }
+{
+    let tests = writer::tests(n, w, k, order, labels, counts);
+    if let Verdict::Refused(r) = tests {
+        return Written::Refused(r);
+    }
+    let size = writer::size(n, counts);
+    let room = out.len();
+    if room < start {
+        return Written::Refused(Refusal {
+            number: refusal::OUT,
+            place: 0,
+        });
+    }
+    if room - start < size {
+        return Written::Refused(Refusal {
+            number: refusal::OUT,
+            place: 0,
+        });
+    }
+    let end = start + size;
+    writer::fill(&mut out[start..end], n, w, k, order, labels, counts);
+    Written::Bytes(size)
+}
+
+// The header alone: n and k, or the very refusal that the reader gives.
+pub fn header(bytes: &[u8]) -> Opened
+    ensures given { λ r. ⌜ r ≡ headerOf (now (bytes .entry)) ⌝ }
+    ensures said { λ r. ⌜ told r ≡ tellOf (headerTest (now (bytes .entry))) (framesOf (now (bytes .entry))) (stopOf (now (bytes .entry))) ⌝ }
+{
+    if bytes.len() < 1 {
+        return get::closed(refusal::SHORT, 0);
+    }
+    let version = get::get(bytes, 0, widths::VERSION_BITS);
+    if version != 1 {
+        return get::closed(refusal::VERSION, 0);
+    }
+    if bytes.len() < 2 {
+        return get::closed(refusal::SHORT, 4);
+    }
+    if bytes.len() < 4 {
+        return get::closed(refusal::SHORT, 16);
+    }
+    let n = get::get(bytes, 4, widths::FRAMES_BITS) + 1;
+    let k = get::get(bytes, 16, widths::STOP_BITS);
+    if n < k {
+        return get::closed(refusal::FIELD, 16);
+    }
+    let spare = get::get(bytes, 29, widths::SPARE_BITS);
+    if spare != 0 {
+        return get::closed(refusal::FIELD, 29);
+    }
+    Opened::Index(n, k)
+}
+
+// The reader: tests the whole file before it stores anything; then fills the order room, the label room and the count
+// room, and hands back n and k. On a refusal every room is as lent.
+pub fn read(
+    bytes: &[u8],
+    w: usize,
+    order: &mut [u32],
+    labels: &mut [Entry],
+    counts: &mut [u32],
+) -> Opened
+    ensures given { λ r. ⌜ outcome r (now (order .exit)) (now (labels .exit)) (now (counts .exit)) ≡ readOf (now (bytes .entry)) w (now (order .entry)) (now (labels .entry)) (now (counts .entry)) ⌝ }
+    ensures said { λ r. ⌜ told r ≡ tellOf (readTest (now (bytes .entry)) w (length (now (order .entry))) (length (now (labels .entry))) (length (now (counts .entry)))) (framesOf (now (bytes .entry))) (stopOf (now (bytes .entry))) ⌝ }
+{
+    let opened = check::file(bytes, w, order.len(), labels.len(), counts.len());
+    let Opened::Index(n, k) = opened else {
+        return opened;
+    };
+    store::order(bytes, n, order);
+    store::rows(bytes, n, w, labels, counts);
+    Opened::Index(n, k)
+}

@@ -1,2 +1,3 @@
 pub mod Links
 pub mod Order
+pub mod Inner

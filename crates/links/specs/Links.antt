@@ -17,11 +17,15 @@ framesFit n = leb 1 n && leb n 4096
 unfoldable pub placesFit : ℕ → Bool
 placesFit l = leb l 65536
 
+-- the start position behind frame v falls
+abbrev pub falls : List ℕ → ℕ → Bool
+falls S v = ltb (getD S (v + 1) 0) (getD S v 0)
+
 -- start positions: first 0, never falling, last equal to the number of neighbour places
 unfoldable pub startsRight : ℕ → List ℕ → List ℕ → Bool
 startsRight n S L =
     eqb (getD S 0 0) 0
-    && not (some (λ v. ltb (getD S (v + 1) 0) (getD S v 0)) 0 n)
+    && not (some (falls S) 0 n)
     && eqb (getD S n 0) (length L)
 
 -- the number of links of frame v
@@ -32,12 +36,16 @@ degree S v = getD S (v + 1) 0 - getD S v 0
 unfoldable pub holds : List ℕ → List ℕ → ℕ → ℕ → Bool
 holds S L w v = some (λ i. eqb (getD L i 0) v) (getD S w 0) (degree S w)
 
+-- the link at place i is not the first of v's list, and not above the one before
+abbrev pub notAbove : List ℕ → List ℕ → ℕ → ℕ → Bool
+notAbove S L v i = ltb (getD S v 0) i && leb (getD L i 0) (getD L (i - 1) 0)
+
 -- the link at place i breaks the rule of v's list: n or more, v itself, not above the one before, or without its mirror
 unfoldable pub faultyLink : ℕ → List ℕ → List ℕ → ℕ → ℕ → Bool
 faultyLink n S L v i =
     leb n (getD L i 0)
     || eqb (getD L i 0) v
-    || (ltb (getD S v 0) i && leb (getD L i 0) (getD L (i - 1) 0))
+    || notAbove S L v i
     || not (holds S L (getD L i 0) v)
 
 -- some link of v's list is faulty

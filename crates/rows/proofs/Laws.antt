@@ -9,7 +9,7 @@ use borrow.Author.Tests.{ltb-true, leb-true, leb-false, ltb-false, lt-ltb, le-le
 use lib.ListN.{length, getD, take, drop, length-append, length-drop, length-take}
 use lib.Seq.{getD-take, getD-drop, length-take-le}
 use lib.Dec.{leb, ltb}
-use Rattle.basics.proofs.Laws.{bcase, by-cases, lt-or-ge, three-ways, both-true, both, either-false, neither, cond-true, cond-false, not-both, of-not-true, not-of-false, some-not, some-none}
+use Rattle.basics.proofs.Laws.{bcase, by-cases, lt-or-ge, three-ways, both-true, both, either-false, either-left, either-right, neither, cond-true, cond-false, not-both, of-not-true, not-of-false, some-not, some-none}
 use Rattle.theory.specs.Rows.{Row}
 use Rattle.basics.specs.Places.{some}
 use Rattle.rows.specs.Entry.{rankOf, joinsOf, entryOf, decode, encode}
@@ -144,14 +144,28 @@ pub record Sound (bound n : ℕ) (row : List ℕ) (count : ℕ) : Type 0 where
   pub joins : (i : ℕ) → i < count → joinsOf (getD row i 0) < n
   pub rising : (i : ℕ) → i + 1 < count → rankOf (getD row i 0) < rankOf (getD row (i + 1) 0)
 
-entry-faultless : (bound n : ℕ) (row : List ℕ) (i : ℕ) → rankOf (getD row i 0) < bound → joinsOf (getD row i 0) < n
+pub faultless : (bound n : ℕ) (row : List ℕ) (i : ℕ) → rankOf (getD row i 0) < bound → joinsOf (getD row i 0) < n
     → (0 < i → rankOf (getD row (i - 1) 0) < rankOf (getD row i 0)) → faultyEntry bound n row i ≡ false
 unfolding faultyEntry
-entry-faultless bound n row i a b rise =
+faultless bound n row i a b rise =
     neither _ _ (neither _ _ (lt-leb bound _ a) (lt-leb n _ b))
     (lt-or-ge 0 i
     (λ h. rw (lt-ltb 0 i h, lt-leb _ _ (rise h)) refl)
     (λ h. rw (le-ltb 0 i h) refl))
+
+pub faulty-rank : (bound n : ℕ) (row : List ℕ) (i : ℕ) → bound ≤ rankOf (getD row i 0) → faultyEntry bound n row i ≡ true
+unfolding faultyEntry
+faulty-rank bound n row i h = either-left _ _ (either-left _ _ (le-leb bound _ h))
+
+pub faulty-joins : (bound n : ℕ) (row : List ℕ) (i : ℕ) → n ≤ joinsOf (getD row i 0) → faultyEntry bound n row i ≡ true
+unfolding faultyEntry
+faulty-joins bound n row i h = either-left _ _ (either-right (leb bound (rankOf (getD row i 0))) _ (le-leb n _ h))
+
+pub faulty-rise : (bound n : ℕ) (row : List ℕ) (i : ℕ) → 0 < i → rankOf (getD row i 0) ≤ rankOf (getD row (i - 1) 0)
+    → faultyEntry bound n row i ≡ true
+unfolding faultyEntry
+faulty-rise bound n row i p h =
+    either-right (leb bound (rankOf (getD row i 0)) || leb n (joinsOf (getD row i 0))) _ (both _ _ (lt-ltb 0 i p) (le-leb _ _ h))
 
 record Faultless (bound n : ℕ) (row : List ℕ) (i : ℕ) : Type 0 where
   rank : rankOf (getD row i 0) < bound
@@ -185,7 +199,7 @@ pub of-sound : (bound n : ℕ) (row : List ℕ) (count : ℕ) → Sound bound n 
 of-sound bound n row count s =
     some-none (faultyEntry bound n row) 0 count
     (λ i h k.
-    entry-faultless bound n row i (s .rank i (omega arith)) (s .joins i (omega arith))
+    faultless bound n row i (s .rank i (omega arith)) (s .joins i (omega arith))
     (λ p.
     let e : i - 1 + 1 ≡ i = omega arith in
     rw e at (s .rising (i - 1) (omega arith))))

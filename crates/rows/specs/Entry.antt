@@ -7,12 +7,15 @@ use Rattle.theory.specs.Rows.{Row}
 abbrev pub entryBytes : ℕ
 entryBytes = 4
 
+-- its upper 16 bits are the rank
 unfoldable pub rankOf : ℕ → ℕ
 rankOf e = e / 65536
 
+-- its lower 16 bits are the joins
 unfoldable pub joinsOf : ℕ → ℕ
 joinsOf e = e % 65536
 
+-- an entry is rank * 65,536 + joins, each taken modulo 65,536
 unfoldable pub entryOf : ℕ → ℕ → ℕ
 entryOf rank joins = rank % 65536 * 65536 + joins % 65536
 

@@ -1,2 +1,6 @@
 pub mod Entry
+pub mod Lookup
+pub mod Meetings
+pub mod Pair
 pub mod Rooms
+pub mod Spread

@@ -1,6 +1,7 @@
 -- The label room and the count room, and the tests on their rows: row v starts at place v * w and has as many used
 -- entries as the count room says.
-use Prim.Native.Nat.{ℕ, _+_, _-_, _*_}
+use Prim.Native.Nat.{ℕ, _+_, _-_, _*_, _≤_}
+use mathlib.Core.Path.{_≡_}
 use mathlib.Core.Bool.{Bool, cond, not, _&&_, _||_}
 use mathlib.Core.List.{List, []}
 use lib.ListN.{length, getD, take, drop}
@@ -22,6 +23,15 @@ roomsFit n w labels counts = eqb (length labels) (n * w) && eqb (length counts) 
 -- 1 and 2 for a label room and a count room
 unfoldable pub roomTests : ℕ → ℕ → List ℕ → List ℕ → Verdict
 roomTests n w labels counts = test (sizesFit n w) SIZE 0 then test (roomsFit n w labels counts) LENGTH 0
+
+-- what those two tests let through
+pub record Rooms (n w : ℕ) (labels counts : List ℕ) : Type 0 where
+  pub some-frames : 1 ≤ n
+  pub frames : n ≤ 4096
+  pub some-width : 1 ≤ w
+  pub width : w ≤ 256
+  pub places : length labels ≡ n * w
+  pub each : length counts ≡ n
 
 -- `count` entries of row v
 unfoldable pub part : ℕ → List ℕ → ℕ → ℕ → List ℕ

@@ -1,4 +1,13 @@
 // Rows and the questions asked of them: the entry's layout, sound rows, the pair question, the row check and lookup, and
 // the spread.
+mod asked;
+pub mod check;
 pub mod entry;
+mod farthest;
+pub mod lookup;
+mod merge;
+pub mod pair;
 pub mod part;
+mod rooms;
+mod sound;
+pub mod spread;

@@ -6,10 +6,10 @@ use mathlib.Core.Bool.{Bool, true, false, cond}
 use native.Mathlib.Decide.{ℕ-discrete}
 use native.Mathlib.Omega.{arith}
 use lib.Dec.{eqb}
-use borrow.Author.Tests.{eqb-true, eqb-false, eq-eqb, ne-eqb}
+use borrow.Author.Tests.{eqb-true, eq-eqb}
 use mathlib.Core.List.{List}
 use Rattle.basics.specs.Places.{some}
-use Rattle.basics.proofs.Laws.{bcase, by-cases, not-both, cond-true, cond-false, three-ways, some-one, some-found, some-none}
+use Rattle.basics.proofs.Laws.{bcase, by-cases, cond-true, cond-false, three-ways, some-one, some-found}
 use Rattle.theory.specs.Links.{Order, hubOf}
 
 -- how many of the places below n are marked

@@ -2,10 +2,8 @@
 -- obeys the triangle law over the frames below k, and turns round with its weights.
 use Prim.Native.Nat.{ℕ, zero, suc, _+_, _≤_, _<_, min}
 use mathlib.Core.Path.{_≡_, refl, sym, ap, _∙_}
-use mathlib.Core.Bool.{Bool, true, false, cond}
 use native.Mathlib.Decide.{ℕ-discrete}
 use native.Mathlib.Omega.{arith}
-use lib.Dec.{eqb}
 use borrow.Author.Tests.{eq-eqb, ne-eqb}
 use Rattle.basics.proofs.Laws.{by-cases, lt-or-ge, cond-true, cond-false}
 use Rattle.theory.specs.Chains.{Chain, stay, step}

@@ -1,4 +1,16 @@
 pub mod Counting
 pub mod DistVia
+pub mod DistLeast
+pub mod DistWeight
+pub mod Distance
+pub mod DistPlain
+pub mod Sample
 pub mod Rule
 pub mod Walk
+pub mod Levels
+pub mod Answer
+pub mod Demand
+pub mod Spare
+pub mod WalkRule
+pub mod Penalties
+pub mod Plain

@@ -1,33 +1,33 @@
 -- The row rule: `ruleRow` holds exactly what the paper's words let in. A hub's joins to v are below every sum over
 -- lower ranks exactly if no such sum equals them (no sum is less, by the way round); rows are made rank by rank, so
 -- ranks rise.
-use Prim.Native.Nat.{ℕ, zero, suc, _+_, _≤_, _<_, min}
+use Prim.Native.Nat.{ℕ, zero, suc, _+_, _≤_, _<_}
 use mathlib.Core.Path.{_≡_, refl, sym, ap, subst, _∙_}
 use mathlib.Core.Logic.{_↔_}
-use mathlib.Core.Bool.{Bool, true, false, cond}
-use mathlib.Core.List.{List, [], _∷_, _++_, List·Memᴰ, List·Memᴰ·head, List·Memᴰ·tail, List·Memᴰ·cases-cons, List·Memᴰ·append-cases, List·Memᴰ·eq-of-singleton, List·Memᴰ·not-nil, Memᴰ·append-left, Memᴰ·append-right}
-use native.Mathlib.Decide.{decLt, ℕ-discrete}
+use mathlib.Core.List.{[], _∷_, _++_, append-nil, List·Memᴰ·head, List·Memᴰ·tail, List·Memᴰ·cases-cons, List·Memᴰ·append-cases, List·Memᴰ·eq-of-singleton, List·Memᴰ·not-nil, Memᴰ·append-left, Memᴰ·append-right}
+use native.Mathlib.Decide.{ℕ-discrete}
 use native.Mathlib.Omega.{arith}
 use lib.ListN.{length, getD, length-append, List·getD-append}
-use lib.Dec.{ltb}
 use borrow.Author.Tests.{lt-ltb, le-ltb}
 use Rattle.basics.specs.Places.{least}
-use Rattle.basics.proofs.Laws.{by-cases, cases, lt-or-ge, least-most, least-le, least-ge}
-use Rattle.theory.specs.Rows.{Row, Rule, Metric, hubs, keep, ruleRow}
-
--- the row has (r, m)
-abbrev pub In : ℕ → ℕ → Row → Type 0
-In r m x = List·Memᴰ (r, m) x
+use Rattle.basics.proofs.Laws.{by-cases, cases, lt-or-ge, cond-true, cond-false, least-most, least-le, least-ge}
+use Rattle.theory.specs.Rows.{Row, In, Rule, Metric, hubs, keep, ruleRow}
 
 -- ---- keeping
 
-pub keep-yes : (r m p : ℕ) (x : Row) → m < p → keep r m p x ≡ x ++ ((r, m) ∷ [])
-unfolding keep
-keep-yes r m p x h = rw (lt-ltb m p h)
-
 pub keep-not : (r m p : ℕ) (x : Row) → p ≤ m → keep r m p x ≡ x
 unfolding keep
-keep-not r m p x h = rw (le-ltb m p h)
+keep-not r m p x h = cond-false (x ++ ((r, m) ∷ [])) x (le-ltb m p h)
+
+pub keep-yes : (r m p : ℕ) (x : Row) → m < p → keep r m p x ≡ x ++ ((r, m) ∷ [])
+unfolding keep
+keep-yes r m p x h = cond-true (x ++ ((r, m) ∷ [])) x (lt-ltb m p h)
+
+pub keep-append : (r m p : ℕ) (x : Row) → keep r m p x ≡ x ++ keep r m p []
+keep-append r m p x =
+    lt-or-ge m p
+    (λ h. keep-yes r m p x h ∙ ap (λ (y : Row). x ++ y) (sym (keep-yes r m p [] h)))
+    (λ h. keep-not r m p x h ∙ sym (append-nil x) ∙ ap (λ (y : Row). x ++ y) (sym (keep-not r m p [] h)))
 
 -- what a row has after a hub: the new entry, where it was kept, or an old one
 pub keep-cases {ℓ} : {C : Type ℓ} (r m p : ℕ) (x : Row) {q j : ℕ} → In q j (keep r m p x) → (In q j x → C)
@@ -123,19 +123,28 @@ rising-keep r m p x s =
     (λ h. subst (Rising (suc r)) (sym (keep-yes r m p x h)) (rising-snoc r m x s))
     (λ h. subst (Rising (suc r)) (sym (keep-not r m p x h)) (rising-more (omega arith) s))
 
+-- a row of rising ranks is no longer than its bound
+rising-at : {k : ℕ} {x : Row} → Rising k x → (i : ℕ) → i < length x → i ≤ rankAt x i
+rising-at s zero h = omega arith
+rising-at s (suc i) h = omega (arith, rising-at s i (omega arith), s .rise i (suc i) (omega arith) h)
+
+pub rising-length : {k : ℕ} {x : Row} → Rising k x → length x ≤ k
+rising-length {x = []} s = omega arith
+rising-length {x = e ∷ x} s = omega (arith, rising-at s (length x) (omega arith), s .below (length x) (omega arith))
+
 -- ranks of a row by the rule strictly rise, below the stop
 pub row-rising : (B : ℕ) (d : ℕ → ℕ → ℕ) (h : ℕ → ℕ) (k v : ℕ) → Rising k (ruleRow B d h k v)
 unfolding ruleRow
 row-rising B d h zero v = record { below = λ i l. absurd (omega arith); rise = λ i j g l. absurd (omega arith) }
-row-rising B d h (suc r) v = rising-keep r (d (h r) v) (hubs B d h r (h r) v) (ruleRow B d h r v) (row-rising B d h r v)
+row-rising B d h (suc r) v = rising-keep r _ _ _ (row-rising B d h r v)
 
 -- ---- the rule
 
 module _ {B n : ℕ} {d : ℕ → ℕ → ℕ} (h : ℕ → ℕ) (𝓜 : Metric B n d) (inside : (r : ℕ) → r < n → h r < n) where
   -- no sum over another hub is less than the distance
-  pub hubs-ge : (k s t : ℕ) → k ≤ n → s < n → t < n → d s t ≤ hubs B d h k s t
+  pub never-less : (k s t : ℕ) → k ≤ n → s < n → t < n → d s t ≤ hubs B d h k s t
   unfolding hubs
-  hubs-ge k s t l p q =
+  never-less k s t l p q =
       least-ge B k _ (d s t) (𝓜 .cap s t p q)
       (λ w g. 𝓜 .via s (h w) t p (inside w (omega arith)) q)
 
@@ -159,18 +168,6 @@ module _ {B n : ℕ} {d : ℕ → ℕ → ℕ} (h : ℕ → ℕ) (𝓜 : Metric 
             alone = λ w g e. omega (arith, least-le B r (λ z. d (h r) (h z) + d (h z) v) w g);
           }
 
-  row-gives : (k v : ℕ) → k ≤ n → v < n → {r m : ℕ} → In r m (ruleRow B d h k v)
-      → (r < k) × Rule B d h r v × (m ≡ d (h r) v)
-  unfolding ruleRow
-  row-gives zero v l q mem = absurd (List·Memᴰ·not-nil mem)
-  row-gives (suc k) v l q {r} {m} mem =
-      keep-cases k (d (h k) v) (hubs B d h k (h k) v) (ruleRow B d h k v) mem
-      (λ old.
-      let (a, b, c) = row-gives k v (omega arith) q old in
-      (omega arith, b, c))
-      (λ less e f.
-      (omega arith, subst (λ (z : ℕ). Rule B d h z v) (sym e) (rule-lt k v l q .1 less), f ∙ ap (λ (z : ℕ). d (h z) v) (sym e)))
-
   row-takes : (k v : ℕ) → k ≤ n → v < n → (r : ℕ) → r < k → Rule B d h r v → In r (d (h r) v) (ruleRow B d h k v)
   unfolding ruleRow
   row-takes zero v l q r g rule = absurd (omega arith)
@@ -178,11 +175,23 @@ module _ {B n : ℕ} {d : ℕ → ℕ → ℕ} (h : ℕ → ℕ) (𝓜 : Metric 
       by-cases (ℕ-discrete r k)
       (λ (e : r ≡ k).
       subst (λ (z : ℕ). In z (d (h z) v) (ruleRow B d h (suc k) v)) (sym e)
-      (keep-new k (d (h k) v) (hubs B d h k (h k) v) (ruleRow B d h k v)
+      (keep-new k (d (h k) v) _ (ruleRow B d h k v)
       (rule-lt k v l q .0 (subst (λ (z : ℕ). Rule B d h z v) e rule))))
       (λ e.
-      keep-old k (d (h k) v) (hubs B d h k (h k) v) (ruleRow B d h k v)
+      keep-old k _ _ _
       (row-takes k v (omega arith) q r (omega arith) rule))
+
+  row-gives : (k v : ℕ) → k ≤ n → v < n → {r m : ℕ} → In r m (ruleRow B d h k v)
+      → (r < k) × Rule B d h r v × (m ≡ d (h r) v)
+  unfolding ruleRow
+  row-gives zero v l q mem = absurd (List·Memᴰ·not-nil mem)
+  row-gives (suc k) v l q {r} {m} mem =
+      keep-cases k _ _ _ mem
+      (λ old.
+      let (a, b, c) = row-gives k v (omega arith) q old in
+      (omega arith, b, c))
+      (λ less e f.
+      (omega arith, subst (λ (z : ℕ). Rule B d h z v) (sym e) (rule-lt k v l q .1 less), f ∙ ap (λ (z : ℕ). d (h z) v) (sym e)))
 
   -- what a row holds: exactly what the rule lets in
   pub in-row : (k v : ℕ) → k ≤ n → v < n → {r m : ℕ}

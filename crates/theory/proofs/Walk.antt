@@ -1,7 +1,7 @@
 -- The walk over whatever rows: a finished walk is one of a kind. A frame met at level m was met from a frame of a lower
 -- level, on which two finished walks agree; so neither meets it later than the other.
 use Prim.Native.Nat.{ℕ, zero, suc, _+_, _≤_, _<_}
-use mathlib.Core.Path.{_≡_, refl, sym, ap, subst, _∙_}
+use mathlib.Core.Path.{_≡_, sym, ap, _∙_}
 use native.Mathlib.Decide.{ℕ-discrete}
 use native.Mathlib.Omega.{arith}
 use Rattle.basics.proofs.Laws.{by-cases, lt-or-ge}

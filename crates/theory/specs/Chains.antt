@@ -1,5 +1,5 @@
 -- Chains of links, turning back allowed, and chains through one of the first k hubs.
-use Prim.Native.Nat.{ℕ, _+_, _≤_, _<_}
+use Prim.Native.Nat.{ℕ, suc, _+_, _≤_, _<_}
 use mathlib.Core.Path.{_≡_}
 
 -- a chain from a to b along links, with the sum of its penalties; K b c w: a link from b to c of penalty w
@@ -26,3 +26,24 @@ pub data Count : Type 0 where
 unfoldable pub Least : (ℕ → Type 0) → Count → Type 0
 Least Q (joins m) = Q m × ((j : ℕ) → Q j → m ≤ j)
 Least Q none = (j : ℕ) → Q j → ⊥
+
+-- the number of links of a chain
+unfoldable pub linkCount : {K : ℕ → ℕ → ℕ → Type 0} {a b m : ℕ} → Chain K a b m → ℕ
+linkCount stay = 0
+linkCount (step c l e) = suc (linkCount c)
+
+-- a chain from a to b of that many links
+pub record ChainOf (K : ℕ → ℕ → ℕ → Type 0) (a b links : ℕ) : Type 0 where
+  pub sum : ℕ
+  pub chain : Chain K a b sum
+  pub long : linkCount chain ≡ links
+
+-- a chain from s to t of that many links, through one of the first k hubs
+pub record ThroughOf (K : ℕ → ℕ → ℕ → Type 0) (h : ℕ → ℕ) (k s t links : ℕ) : Type 0 where
+  pub rank : ℕ
+  pub used : rank < k
+  pub there : ℕ
+  pub on : ℕ
+  pub to-hub : ChainOf K s (h rank) there
+  pub from-hub : ChainOf K (h rank) t on
+  pub whole : links ≡ there + on

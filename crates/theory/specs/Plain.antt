@@ -8,7 +8,7 @@ use lib.Dec.{eqb, ltb}
 use Rattle.basics.specs.Places.{some}
 use Rattle.theory.specs.Links.{inList, hubOf}
 use Rattle.theory.specs.Distance.{far, dist}
-use Rattle.theory.specs.Rows.{Row, ruleRow}
+use Rattle.theory.specs.Rows.{Row, answer, ruleRow}
 
 -- every join counts 1
 abbrev pub ones : ℕ → ℕ
@@ -29,3 +29,7 @@ joinsTo n S L = dist 1 n S L ones
 -- the row of v by the row rule at stop k
 unfoldable pub rowBy : ℕ → List ℕ → List ℕ → List ℕ → ℕ → ℕ → Row
 rowBy n S L O k v = ruleRow (far 1 n) (joinsTo n S L) (hubOf O) k v
+
+-- the answer for (s,t) from the rows at stop k, by infinity where none
+abbrev pub answerBy : ℕ → List ℕ → List ℕ → List ℕ → ℕ → ℕ → ℕ → ℕ
+answerBy n S L O k s t = answer (far 1 n) n (rowBy n S L O k s) (rowBy n S L O k t)

@@ -3,12 +3,25 @@
 use Prim.Native.Nat.{ℕ, zero, suc, _+_, _≤_, _<_, min}
 use mathlib.Core.Path.{_≡_}
 use mathlib.Core.Bool.{cond}
-use mathlib.Core.List.{List, [], _∷_, _++_}
+use mathlib.Core.List.{List, [], _∷_, _++_, List·Memᴰ}
 use lib.Dec.{eqb, ltb}
 use Rattle.basics.specs.Places.{least}
 
 abbrev pub Row : Type 0
 Row = List (ℕ × ℕ)
+
+-- the row holds (r, m): rank r at m joins
+abbrev pub In : ℕ → ℕ → Row → Type 0
+In r m x = List·Memᴰ (r, m) x
+
+-- m is a sum of joins over a rank found in both rows
+pub record Shared (x y : Row) (m : ℕ) : Type 0 where
+  pub rank : ℕ
+  pub first : ℕ
+  pub second : ℕ
+  pub in-first : In rank first x
+  pub in-second : In rank second y
+  pub whole : m ≡ first + second
 
 -- the joins that a row has for rank r, and B where it has none
 unfoldable pub at : ℕ → Row → ℕ → ℕ
@@ -31,6 +44,10 @@ keep r m p x = cond (ltb m p) (x ++ ((r, m) ∷ [])) x
 unfoldable pub ruleRow : ℕ → (ℕ → ℕ → ℕ) → (ℕ → ℕ) → ℕ → ℕ → Row
 ruleRow B d h zero v = []
 ruleRow B d h (suc r) v = keep r (d (h r) v) (hubs B d h r (h r) v) (ruleRow B d h r v)
+
+-- the rows R with x in place of the row of v
+unfoldable pub instead : (ℕ → Row) → ℕ → Row → ℕ → Row
+instead R v x u = cond (eqb u v) x (R u)
 
 -- the rule in the paper's words: h reaches v, and no w of lower rank has d(h,w) + d(w,v) = d(h,v)
 pub record Rule (B : ℕ) (d : ℕ → ℕ → ℕ) (h : ℕ → ℕ) (r v : ℕ) : Type 0 where

@@ -1,3 +1,4 @@
+-- Two numbers below 65,536 make one of 32 bits, so that nothing wraps.
 use Rattle.rows.specs.Entry.{entryOf}
 use mathlib.Core.Path.{refl}
 use borrow.Author.Needs.{needs}

@@ -1,3 +1,4 @@
+-- The remainder is the definition itself.
 use Rattle.rows.specs.Entry.{joinsOf}
 use mathlib.Core.Path.{refl}
 use borrow.Author.Needs.{needs}

@@ -1,3 +1,4 @@
+-- The quotient is the definition itself.
 use Rattle.rows.specs.Entry.{rankOf}
 use mathlib.Core.Path.{refl}
 use borrow.Author.Needs.{needs}

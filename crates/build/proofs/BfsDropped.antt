@@ -1,0 +1,137 @@
+-- The frame at the head of the queue is dropped: it gets its mark, and the walk has one frame more done. Levels stay, and
+-- so does every other frame.
+use Prim.Native.Nat.{ℕ, _+_, _-_, _≤_, _<_}
+use mathlib.Core.Path.{_≡_, refl, sym, ap, _∙_}
+use mathlib.Core.Logic.{inl, inr}
+use mathlib.Core.Bool.{Bool, true}
+use mathlib.Core.List.{List}
+use native.Mathlib.Decide.{ℕ-discrete}
+use native.Mathlib.Omega.{arith}
+use lib.ListN.{length, getD, set, length-set}
+use lib.Seq.{getD-set-same, getD-set-other}
+use Rattle.basics.proofs.Laws.{by-cases, cases}
+use Rattle.build.specs.Explore.{Queue, Bfs, levelAt}
+use Rattle.build.proofs.BfsQueue.{filled-set}
+use Rattle.build.proofs.BfsStep.{Carried, done-stays, parent-stays, apart}
+
+module _ {n : ℕ} {S L : List ℕ} {drop : ℕ → ℕ → Bool} {hub : ℕ} {M Q : List ℕ} {h t : ℕ}
+    (b : Bfs n S L drop hub M Q h t) (more : h < t) where
+  module _ (x : ℕ) (is : getD M (getD Q h 0) 0 ≡ x) {r : Bool} (says : r ≡ drop (getD Q h 0) (x - 1))
+      (hit : r ≡ true) where
+    inside : getD Q h 0 < length M
+    inside = b .line .is .low h more
+
+    first-met : 1 ≤ x
+    first-met = omega (arith, is, b .line .is .marked h more)
+
+    not-marked : x < 65536
+    not-marked = omega (arith, is, b .plain h (omega arith) more)
+
+    M' : List ℕ
+    M' = set M (getD Q h 0) (x + 65536)
+
+    long : length M' ≡ length M
+    unfolding M'
+    long = length-set M (getD Q h 0) (x + 65536)
+
+    here : getD M' (getD Q h 0) 0 ≡ x + 65536
+    unfolding M'
+    here = getD-set-same M (getD Q h 0) (x + 65536) 0 inside
+
+    other : (v : ℕ) → (v ≡ getD Q h 0 → ⊥) → getD M' v 0 ≡ getD M v 0
+    unfolding M'
+    other v p = getD-set-other M (getD Q h 0) v (x + 65536) 0 p
+
+    at-frame {ℓ} : {C : Type ℓ} (v : ℕ) → (getD M' v 0 ≡ getD M v 0 + 65536 → getD M v 0 ≡ x → C) → (getD M' v 0 ≡ getD M v 0 → C) → C
+    at-frame v f g =
+        by-cases (ℕ-discrete v (getD Q h 0))
+        (λ (q : v ≡ getD Q h 0).
+        let old : getD M v 0 ≡ x = ap (λ (k : ℕ). getD M k 0) q ∙ is in
+        let new : getD M' v 0 ≡ x + 65536 = ap (λ (k : ℕ). getD M' k 0) q ∙ here in
+        f (omega arith) old)
+        (λ q. g (other v q))
+
+    level : (v : ℕ) → levelAt M' v ≡ levelAt M v
+    level v = at-frame v (λ s o. omega (arith, not-marked)) (λ s. omega arith)
+
+    stays : (v : ℕ) → 0 < getD M v 0 → 0 < getD M' v 0
+    stays v m = at-frame v (λ s o. omega arith) (λ s. omega arith)
+
+    was : (v : ℕ) → 0 < getD M' v 0 → 0 < getD M v 0
+    was v m = at-frame v (λ s o. omega (arith, first-met)) (λ s. omega arith)
+
+    same : (i : ℕ) → i < t → (i ≡ h → ⊥) → getD M' (getD Q i 0) 0 ≡ getD M (getD Q i 0) 0
+    same i p q = other (getD Q i 0) (apart b more i p q)
+
+    carried : Carried M Q h M' Q
+    carried =
+        record {
+          same = λ i q. same i (omega arith) (λ e. omega arith);
+          stay = stays;
+          level = λ v m. level v;
+          front = λ i q. refl;
+        }
+
+    line' : Queue M' Q t
+    unfolding M'
+    line' =
+        record {
+          is = record {
+            long = b .line .is .long ∙ sym long;
+            few = omega (arith, long, b .line .is .few);
+            low = λ i p. omega (arith, long, b .line .is .low i p);
+            marked = λ i p. stays (getD Q i 0) (b .line .is .marked i p);
+            all = λ v p m. b .line .is .all v (omega (arith, long)) (was v m);
+            once = b .line .is .once;
+            rest = b .line .is .rest;
+          };
+          count = omega (arith, filled-set M (getD Q h 0) (x + 65536) inside, b .line .count, is, first-met);
+        }
+
+    pub bfs-drop : Bfs n S L drop hub (set M (getD Q h 0) (x + 65536)) Q (h + 1) t
+    unfolding M'
+    bfs-drop =
+        record {
+          long = long ∙ b .long;
+          line = line';
+          ahead = omega arith;
+          some = b .some;
+          first = b .first;
+          start = level hub ∙ b .start;
+          small = λ i p.
+              by-cases (ℕ-discrete i h)
+              (λ (q : i ≡ h). rw q (omega (arith, here, not-marked)))
+              (λ q. omega (arith, same i p q, b .small i p));
+          least = λ i p. omega (arith, level (getD Q i 0), b .least i p);
+          rise = λ i j p q. omega (arith, level (getD Q i 0), level (getD Q j 0), b .rise i j p q);
+          near = λ j p q.
+              omega (
+                arith,
+                level (getD Q j 0),
+                level (getD Q (h + 1) 0),
+                b .near j more q,
+                b .rise h (h + 1) (omega arith) p,
+              );
+          short = λ j p. omega (arith, level (getD Q j 0), b .short j p);
+          plain = λ j p q. omega (arith, same j q (λ e. omega arith), b .plain j (omega arith) q);
+          reason = λ j p.
+              cases (b .reason j p) inl
+              (λ r.
+              inr
+              (parent-stays carried (getD Q j 0) (b .line .is .marked j p) r));
+          done = λ i p.
+              by-cases (ℕ-discrete i h)
+              (λ (q : i ≡ h).
+              rw q
+              (inr
+              (record {
+                marked = omega (arith, here);
+                found =
+                    ap (λ (l : ℕ). drop (getD Q h 0) l)
+                    (let l : levelAt M' (getD Q h 0) - 1 ≡ x - 1 = omega (arith, here, not-marked) in l)
+                    ∙ sym says
+                    ∙ hit;
+              })))
+              (λ q.
+              done-stays carried i (omega arith) (b .done i (omega arith)));
+        }

@@ -1,0 +1,150 @@
+-- A walk with every frame of its queue done is theory's finished walk, so its levels are the level-by-level ones, and the
+-- met room holds the marks that the definition says.
+use Prim.Native.Nat.{ℕ, _+_, _-_, _≤_, _<_}
+use mathlib.Core.Path.{_≡_, sym, ap, _∙_}
+use mathlib.Core.Logic.{_⊎_}
+use mathlib.Core.Bool.{Bool, cond}
+use mathlib.Core.List.{List}
+use native.Mathlib.Omega.{arith}
+use lib.ListN.{getD}
+use lib.Dec.{leb, ltb}
+use borrow.Author.Tests.{lt-ltb, le-ltb, leb-true, leb-false}
+use Rattle.basics.specs.Places.{table}
+use Rattle.basics.proofs.Laws.{bcase, cases, lt-or-ge, cond-true, cond-false, is-table}
+use Rattle.theory.specs.Links.{Block, Link}
+use Rattle.theory.specs.Plain.{ones, joined}
+use Rattle.theory.specs.Walk.{Met, levels}
+use Rattle.theory.proofs.DistPlain.{joined-link, link-joined}
+use Rattle.theory.proofs.Levels.{oneEach, met-levels}
+use Rattle.build.specs.Walk.{mark}
+use Rattle.build.specs.Explore.{Bfs, Kept, Dropped, levelAt}
+
+-- the level that a met room holds for v, and B where v is not met
+unfoldable pub levelIn : ℕ → List ℕ → ℕ → ℕ
+levelIn B M v = cond (ltb 0 (getD M v 0)) (levelAt M v - 1) B
+
+module _ {n : ℕ} {S L : List ℕ} (block : Block n 1 S L ones) {drop : ℕ → ℕ → Bool} {hub : ℕ} (inside : hub < n)
+    {M Q : List ℕ} {t : ℕ} (b : Bfs n S L drop hub M Q t t) (B : ℕ) (above : n < B) (P : ℕ → ℕ)
+    (capped : (u : ℕ) → P u ≤ B)
+    (test : (u level : ℕ) → u < n → level < n → drop u level ≡ leb (P u) level) where
+  not-met : (v : ℕ) → getD M v 0 ≡ 0 → levelIn B M v ≡ B
+  unfolding levelIn
+  not-met v e = cond-false _ _ (le-ltb 0 (getD M v 0) (omega arith))
+
+  is-met : (v : ℕ) → 0 < getD M v 0 → levelIn B M v ≡ levelAt M v - 1
+  unfolding levelIn
+  is-met v m = cond-true _ _ (lt-ltb 0 (getD M v 0) m)
+
+  -- a frame that is met stands in the queue and is done; its level is below n
+  record Place (v : ℕ) : Type 0 where
+    at : ℕ
+    before : at < t
+    here : getD Q at 0 ≡ v
+    level : levelIn B M v + 1 ≡ levelAt M v
+    low : levelIn B M v < n
+    small : getD M v 0 < 131072
+    done : Kept S L drop M v ⊎ Dropped drop M v
+
+  place : (v : ℕ) → v < n → 0 < getD M v 0 → Place v
+  place v h m =
+      let (i, p, q) = b .line .is .all v (omega (arith, b .long)) m in
+      let one : 1 ≤ levelAt M v = rw q at (b .least i p) in
+      let most : levelAt M v ≤ i + 1 = rw q at (b .short i p) in
+      record {
+        at = i;
+        before = p;
+        here = q;
+        level = omega (arith, is-met v m);
+        low = omega (arith, is-met v m, b .line .is .few, b .long);
+        small = rw q at (b .small i p);
+        done = rw q at (b .done i p);
+      }
+
+  at-frame {ℓ} : {C : Type ℓ} (v : ℕ) → v < n → (getD M v 0 ≡ 0 → levelIn B M v ≡ B → C) → (0 < getD M v 0 → Place v → C) → C
+  at-frame v h out met =
+      lt-or-ge 0 (getD M v 0)
+      (λ m. met m (place v h m))
+      (λ z.
+      let e : getD M v 0 ≡ 0 = omega arith in
+      out e (not-met v e))
+
+  -- kept: below the answer; dropped: not below it
+  kept-below : (v : ℕ) → v < n → Place v → Kept S L drop M v → levelIn B M v < P v
+  kept-below v h p k =
+      let l : levelAt M v - 1 ≡ levelIn B M v = omega (arith, p .level) in
+      leb-false (P v) (levelIn B M v) (sym (test v (levelIn B M v) h (p .low)) ∙ ap (drop v) (sym l) ∙ k .free)
+
+  dropped-above : (v : ℕ) → v < n → Place v → Dropped drop M v → P v ≤ levelIn B M v
+  dropped-above v h p d =
+      let l : levelAt M v - 1 ≡ levelIn B M v = omega (arith, p .level) in
+      leb-true (P v) (levelIn B M v) (sym (test v (levelIn B M v) h (p .low)) ∙ ap (drop v) (sym l) ∙ d .found)
+
+  cap : (v : ℕ) → v < n → levelIn B M v ≤ B
+  cap v h = at-frame v h (λ e o. omega arith) (λ m p. omega (arith, p .low))
+
+  on : (u v : ℕ) → u < n → v < n → levelIn B M u < P u → levelIn B M v ≤ levelIn B M u + oneEach B (joined S L) u v
+  on u v p q below =
+      bcase (joined S L u v)
+      (λ j.
+      let one : oneEach B (joined S L) u v ≡ 1 = cond-true 1 B j in
+      at-frame u p
+      (λ e o. omega (arith, cap v q))
+      (λ m place-u.
+      cases (place-u .done)
+      (λ k.
+      let (w, l) = joined-link {S = S} {L = L} ones u v j in
+      let link : Link S L ones u v 1 = rw (sym (l .costs)) at l in
+      let place-v : Place v = place v q (k .met-all v link) in
+      omega (arith, k .next v link, place-u .level, place-v .level))
+      (λ d. absurd (omega (arith, dropped-above u p place-u d)))))
+      (λ j. omega (arith, cap v q, cond-false {A = ℕ} 1 B j))
+
+  from : (v : ℕ) → v < n → (v ≡ hub → ⊥) → levelIn B M v < B
+      → (u : ℕ) × (u < n) × (levelIn B M u < P u) × (levelIn B M v ≡ levelIn B M u + oneEach B (joined S L) u v)
+  from v h other met =
+      at-frame v h
+      (λ e o. absurd (omega arith))
+      (λ m pv.
+      cases (b .reason (pv .at) (pv .before))
+      (λ q. absurd (other (sym (pv .here) ∙ q)))
+      (λ r.
+      let u : ℕ = getD Q (r .place) 0 in
+      let low : u < n = omega (arith, b .line .is .low (r .place) (r .before), b .long) in
+      let pu : Place u = place u low (b .line .is .marked (r .place) (r .before)) in
+      let link : Link S L ones u v 1 = rw (pv .here) at (r .link) in
+      let level : levelAt M v ≡ levelAt M u + 1 = rw (pv .here) at (r .level) in
+      let one : oneEach B (joined S L) u v ≡ 1 = cond-true 1 B (link-joined block low link) in
+      cases (pu .done)
+      (λ k. (u, low, kept-below u low pu k, omega (arith, pu .level, pv .level)))
+      (λ d. absurd (omega (arith, r .kept, d .marked)))))
+
+  pub bfs-met : Met B n (oneEach B (joined S L)) P hub (levelIn B M)
+  bfs-met =
+      let first : 0 < getD M hub 0 = rw (b .first) at (b .line .is .marked 0 (b .some)) in
+      record {
+        cap = cap;
+        start = omega (arith, is-met hub first, b .start);
+        on = on;
+        from = from;
+      }
+
+  -- the met room, place by place
+  room-at : (v : ℕ) → v < n → getD M v 0 ≡ mark B (levels B n (joined S L) P hub n v) (P v)
+  unfolding mark
+  room-at v h =
+      let same : levelIn B M v ≡ levels B n (joined S L) P hub n v =
+      met-levels B n (joined S L) P hub inside above (levelIn B M) bfs-met v h in
+      rw (← same)
+      (at-frame v h
+      (λ e o. e ∙ sym (cond-false _ _ (le-ltb (levelIn B M v) B (omega arith))))
+      (λ m p.
+      cases (p .done)
+      (λ k.
+      rw (lt-ltb (levelIn B M v) B (omega (arith, p .low)), lt-ltb (levelIn B M v) (P v) (kept-below v h p k))
+      (omega (arith, p .level, k .plain)))
+      (λ d.
+      rw (lt-ltb (levelIn B M v) B (omega (arith, p .low)), le-ltb (levelIn B M v) (P v) (dropped-above v h p d))
+      (omega (arith, p .level, d .marked, p .small)))))
+
+  pub bfs-room : M ≡ table n (λ v. mark B (levels B n (joined S L) P hub n v) (P v))
+  bfs-room = is-table 0 M n (λ v. mark B (levels B n (joined S L) P hub n v) (P v)) (b .long) room-at

@@ -1,0 +1,140 @@
+-- The frame at the head of the queue is kept: its neighbours not met yet stand behind the queue, one level on, and the
+-- walk has one frame more done.
+use Prim.Native.Nat.{ℕ, _+_, _-_, _%_, _≤_, _<_}
+use mathlib.Core.Path.{_≡_, sym, ap, _∙_}
+use mathlib.Core.Logic.{inl, inr}
+use mathlib.Core.Bool.{Bool, false}
+use mathlib.Core.List.{List}
+use native.Mathlib.Decide.{ℕ-discrete}
+use native.Mathlib.Omega.{arith}
+use lib.ListN.{getD}
+use Rattle.basics.proofs.Laws.{by-cases, cases, lt-or-ge}
+use Rattle.theory.specs.Links.{Link}
+use Rattle.theory.specs.Plain.{ones}
+use Rattle.build.specs.Explore.{Grown, Bfs, Kept, levelAt}
+use Rattle.build.proofs.BfsStep.{Carried, done-stays, parent-stays}
+
+module _ {n : ℕ} {S L : List ℕ} {drop : ℕ → ℕ → Bool} {hub : ℕ} {M Q : List ℕ} {h t : ℕ}
+    (b : Bfs n S L drop hub M Q h t) (more : h < t) where
+  module _ (x : ℕ) (is : getD M (getD Q h 0) 0 ≡ x) {r : Bool} (says : r ≡ drop (getD Q h 0) (x - 1))
+      (free : r ≡ false) (frames : n ≤ 4096)
+      {M' Q' : List ℕ} {t' : ℕ}
+      (g : Grown S L (getD Q h 0) (getD S (getD Q h 0 + 1) 0) (x + 1) M Q t M' Q' t') where
+    old-met : (i : ℕ) → i < t → getD M' (getD Q i 0) 0 ≡ getD M (getD Q i 0) 0
+    old-met i p = g .old (getD Q i 0) (b .line .is .marked i p)
+
+    -- a frame of the new queue is an old one, or one that this frame met
+    along {ℓ} : {C : Type ℓ} (i : ℕ) → i < t'
+        → (i < t → getD Q' i 0 ≡ getD Q i 0 → getD M' (getD Q' i 0) 0 ≡ getD M (getD Q i 0) 0 → C)
+        → (t ≤ i → getD M' (getD Q' i 0) 0 ≡ x + 1 → Link S L ones (getD Q h 0) (getD Q' i 0) 1 → C) → C
+    along i p old new =
+        lt-or-ge i t
+        (λ l. old l (g .front i l) (ap (λ (k : ℕ). getD M' k 0) (g .front i l) ∙ old-met i l))
+        (λ l.
+        let (e, k) = g .new (getD Q' i 0) (g .fresh i l p) (g .line .is .marked i p) in
+        new l e k)
+
+    -- the level of this frame
+    own : levelAt M (getD Q h 0) ≡ x
+    own = omega (arith, is, b .plain h (omega arith) more)
+
+    few : x + 1 ≤ 4097
+    few = omega (arith, own, b .short h more, b .line .is .few, b .long)
+
+    level-of : (v : ℕ) → 0 < getD M v 0 → levelAt M' v ≡ levelAt M v
+    level-of v m = ap (λ (k : ℕ). k % 65536) (g .old v m)
+
+    kept-carried : Carried M Q h M' Q'
+    kept-carried =
+        record {
+          same = λ i p. old-met i (omega arith);
+          stay = λ v m. omega (arith, g .old v m);
+          level = level-of;
+          front = λ i p. g .front i (omega arith);
+        }
+
+    this : getD Q' h 0 ≡ getD Q h 0
+    this = g .front h more
+
+    -- a neighbour is met, and at most one level on
+    met-next : (v : ℕ) → Link S L ones (getD Q h 0) v 1 → 0 < getD M' v 0
+    met-next v l = rw (l .holds) at (g .all (l .at) (l .from) (l .upto))
+
+    level-next : (v : ℕ) → v < n → 0 < getD M' v 0 → levelAt M' v ≤ x + 1
+    level-next v p m =
+        lt-or-ge 0 (getD M v 0)
+        (λ o.
+        let (i, l, q) = b .line .is .all v (omega (arith, b .long)) o in
+        let e : levelAt M (getD Q i 0) ≡ levelAt M v = ap (levelAt M) q in
+        omega (arith, level-of v o, b .near i more l, own))
+        (λ z.
+        let (e, k) = g .new v (omega arith) m in
+        omega (arith, few))
+
+    own-kept : ((v : ℕ) → Link S L ones (getD Q h 0) v 1 → v < n) → Kept S L drop M' (getD Q h 0)
+    own-kept low =
+        let lev : levelAt M' (getD Q h 0) ≡ x = level-of (getD Q h 0) (b .line .is .marked h more) ∙ own in
+        record {
+          plain = omega (arith, old-met h more, is, few);
+          free = ap (λ (l : ℕ). drop (getD Q h 0) (l - 1)) lev ∙ sym says ∙ free;
+          met-all = met-next;
+          next = λ v l. omega (arith, level-next v (low v l) (met-next v l));
+        }
+
+    pub bfs-keep : ((v : ℕ) → Link S L ones (getD Q h 0) v 1 → v < n) → Bfs n S L drop hub M' Q' (h + 1) t'
+    bfs-keep low =
+        record {
+          long = g .long ∙ b .long;
+          line = g .line;
+          ahead = omega (arith, g .more);
+          some = omega (arith, g .more);
+          first = g .front 0 (omega arith) ∙ b .first;
+          start = level-of hub (rw (b .first) at (b .line .is .marked 0 (omega arith))) ∙ b .start;
+          small = λ i p. along i p (λ l q e. omega (arith, b .small i l)) (λ l e k. omega (arith, few));
+          least = λ i p. along i p (λ l q e. omega (arith, b .least i l)) (λ l e k. omega (arith, few));
+          rise = λ i j p q.
+              along j q
+              (λ l r e. along i (omega arith) (λ l' r' e'. omega (arith, b .rise i j p l)) (λ l' e' k'. omega arith))
+              (λ l e k.
+              along i (omega arith)
+              (λ l' r' e'. omega (arith, b .near i more l', own, few))
+              (λ l' e' k'. omega arith));
+          near = λ j p q.
+              along (h + 1) p
+              (λ l r e.
+              let up = b .rise h (h + 1) (omega arith) l in
+              along j q
+              (λ l' r' e'. omega (arith, b .near j more l', own))
+              (λ l' e' k'. omega (arith, own, few)))
+              (λ l e k.
+              along j q
+              (λ l' r' e'. omega (arith, b .near j more l', own, few))
+              (λ l' e' k'. omega (arith, few)));
+          short = λ j p.
+              along j p
+              (λ l q e. omega (arith, b .short j l))
+              (λ l e k. omega (arith, own, few, b .short h more));
+          plain = λ j p q.
+              along j q
+              (λ l r e. omega (arith, b .plain j (omega arith) l))
+              (λ l e k. omega (arith, few));
+          reason = λ j p.
+              along j p
+              (λ l q e.
+              rw q
+              (cases (b .reason j l) inl
+              (λ r. inr (parent-stays kept-carried (getD Q j 0) (b .line .is .marked j l) r))))
+              (λ l e k.
+              inr
+              (record {
+                place = h;
+                before = omega arith;
+                link = rw this k;
+                kept = rw this (omega (arith, old-met h more, is, few));
+                level = rw this (omega (arith, level-of (getD Q h 0) (b .line .is .marked h more), own, few));
+              }));
+          done = λ i p.
+              by-cases (ℕ-discrete i h)
+              (λ (q : i ≡ h). rw (q, this) (inl (own-kept low)))
+              (λ q. done-stays kept-carried i (omega arith) (b .done i (omega arith)));
+        }

@@ -1,0 +1,73 @@
+-- One frame of the walk, the one at place h of the queue. Whether it is dropped or kept, what was done before it stays
+-- done, and its level is below n.
+use Prim.Native.Nat.{ℕ, _+_, _-_, _%_, _≤_, _<_}
+use mathlib.Core.Path.{_≡_, sym, ap, _∙_}
+use mathlib.Core.Logic.{_⊎_, inl, inr}
+use mathlib.Core.Bool.{Bool}
+use mathlib.Core.List.{List}
+use native.Mathlib.Omega.{arith}
+use lib.ListN.{getD}
+use Rattle.basics.proofs.Laws.{cases, three-ways}
+use Rattle.build.specs.Explore.{Bfs, Kept, Dropped, Parent, levelAt}
+
+-- ---- what is done stays done
+
+-- met frames stay met at their levels, and the first h places of the queue and what is held for them stay
+pub record Carried (M Q : List ℕ) (h : ℕ) (M' Q' : List ℕ) : Type 0 where
+  pub same : (i : ℕ) → i < h → getD M' (getD Q i 0) 0 ≡ getD M (getD Q i 0) 0
+  pub stay : (v : ℕ) → 0 < getD M v 0 → 0 < getD M' v 0
+  pub level : (v : ℕ) → 0 < getD M v 0 → levelAt M' v ≡ levelAt M v
+  pub front : (i : ℕ) → i < h → getD Q' i 0 ≡ getD Q i 0
+
+pub done-stays : {S L : List ℕ} {drop : ℕ → ℕ → Bool} {M Q : List ℕ} {h : ℕ} {M' Q' : List ℕ} → Carried M Q h M' Q'
+    → (i : ℕ) → i < h → Kept S L drop M (getD Q i 0) ⊎ Dropped drop M (getD Q i 0)
+    → Kept S L drop M' (getD Q' i 0) ⊎ Dropped drop M' (getD Q' i 0)
+done-stays {drop = drop} {M} {Q} {h} {M'} c i p was =
+    let s = c .same i p in
+    let lev : levelAt M' (getD Q i 0) ≡ levelAt M (getD Q i 0) = ap (λ (k : ℕ). k % 65536) s in
+    rw (c .front i p)
+    (cases was
+    (λ k.
+    inl
+    (record {
+      plain = omega (arith, k .plain);
+      free = ap (λ (l : ℕ). drop (getD Q i 0) (l - 1)) lev ∙ k .free;
+      met-all = λ v l. c .stay v (k .met-all v l);
+      next = λ v l. omega (arith, k .next v l, c .level v (k .met-all v l));
+    }))
+    (λ d.
+    inr
+    (record { marked = omega (arith, d .marked); found = ap (λ (l : ℕ). drop (getD Q i 0) (l - 1)) lev ∙ d .found })))
+
+pub parent-stays : {S L M Q : List ℕ} {h : ℕ} {M' Q' : List ℕ} → Carried M Q h M' Q' → (v : ℕ) → 0 < getD M v 0
+    → Parent S L M Q h v → Parent S L M' Q' (h + 1) v
+parent-stays c v m p =
+    let f = c .front (p .place) (p .before) in
+    let s = c .same (p .place) (p .before) in
+    record {
+      place = p .place;
+      before = omega (arith, p .before);
+      link = rw f (p .link);
+      kept = rw f (omega (arith, p .kept));
+      level = rw f (omega (arith, p .level, c .level v m));
+    }
+
+module _ {n : ℕ} {S L : List ℕ} {drop : ℕ → ℕ → Bool} {hub : ℕ} {M Q : List ℕ} {h t : ℕ}
+    (b : Bfs n S L drop hub M Q h t) (more : h < t) where
+  -- another place of the queue holds another frame
+  pub apart : (i : ℕ) → i < t → (i ≡ h → ⊥) → getD Q i 0 ≡ getD Q h 0 → ⊥
+  apart i p q e =
+      three-ways i h
+      (λ l. b .line .is .once i h l more e)
+      (λ l. q l)
+      (λ l. b .line .is .once h i l p (sym e))
+
+  -- the frame at h is met, not marked, and its level is below n
+  pub head-in : getD Q h 0 < n
+  head-in = omega (arith, b .line .is .low h more, b .long)
+
+  pub head-met : 1 ≤ getD M (getD Q h 0) 0
+  head-met = b .line .is .marked h more
+
+  pub head-low : getD M (getD Q h 0) 0 ≤ n
+  head-low = omega (arith, b .plain h (omega arith) more, b .short h more, b .line .is .few, b .long)

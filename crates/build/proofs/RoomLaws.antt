@@ -1,0 +1,147 @@
+-- The label room and the count room as tables of rows: what one more entry changes, when two are the same, and that a row
+-- is read back out of them as it was put.
+use Prim.Native.Nat.{ℕ, zero, suc, _+_, _-_, _*_, _/_, _%_, _≤_, _<_}
+use mathlib.Core.Path.{_≡_, refl, sym, ap, _∙_}
+use mathlib.Core.List.{List, [], _∷_, _++_}
+use native.Mathlib.Nat.{suc-mul, mul-le-mul-right, mod-lt, div-add-mod', div-lt-iff-lt-mul}
+use native.Mathlib.Numerals.{add-one}
+use native.Mathlib.Decide.{ℕ-discrete}
+use native.Mathlib.Omega.{arith}
+use lib.ListN.{length, getD, set, take, drop, length-set, length-append, length-take, length-drop, List·getD-append, List·getD-eq-default}
+use lib.Arith.{digits-div, digits-mod}
+use lib.Seq.{getD-at, getD-take, getD-drop, ext-getD}
+use Rattle.basics.specs.Places.{table}
+use Rattle.basics.proofs.Laws.{by-cases, three-ways, at-set, is-table, length-table, getD-table, table-ext}
+use Rattle.theory.specs.Rows.{Row}
+use Rattle.rows.specs.Entry.{entryOf, rankOf, joinsOf, encode, decode}
+use Rattle.rows.specs.Rooms.{rowAt, part}
+use Rattle.rows.proofs.Laws.{length-encode, encode-append}
+use Rattle.build.specs.Build.{labelsOf, countsOf}
+
+-- ---- entries of a row
+
+encode-snoc : (x : Row) (a : ℕ × ℕ) → encode (x ++ (a ∷ [])) ≡ encode x ++ (entryOf (a .0) (a .1) ∷ [])
+unfolding encode
+encode-snoc x a = encode-append x (a ∷ [])
+
+-- the last entry of a row, and the others
+last-entry : (x : Row) (a : ℕ × ℕ) → getD (encode (x ++ (a ∷ []))) (length x) 0 ≡ entryOf (a .0) (a .1)
+last-entry x a = rw encode-snoc (getD-at (encode x) (entryOf (a .0) (a .1)) [] 0 (length x) (length-encode x))
+
+other-entry : (x : Row) (a : ℕ × ℕ) (j : ℕ) → (j ≡ length x → ⊥) → getD (encode (x ++ (a ∷ []))) j 0 ≡ getD (encode x) j 0
+other-entry x a j h =
+    rw encode-snoc
+    (three-ways j (length x)
+    (λ l. List·getD-append (encode x) (entryOf (a .0) (a .1) ∷ []) 0 j (omega (arith, length-encode x)))
+    (λ e. absurd (h e))
+    (λ g.
+    List·getD-eq-default (encode x ++ (entryOf (a .0) (a .1) ∷ [])) 0
+    (omega (arith, length-append (encode x) (entryOf (a .0) (a .1) ∷ []), length-encode x))
+    ∙ sym (List·getD-eq-default (encode x) 0 (omega (arith, length-encode x)))))
+
+-- ---- places
+
+-- place c of row v lies in the label room
+pub row-place : {n w v c : ℕ} → v < n → c < w → v * w + c < n * w
+row-place {n} {w} {v} {c} h k = omega (arith, suc-mul v w, mul-le-mul-right w h)
+
+pub frame-of : {n w p : ℕ} → 1 ≤ w → p < n * w → p / w < n
+frame-of h k = div-lt-iff-lt-mul h .1 k
+
+pub length-labels : (n w : ℕ) (R : ℕ → Row) → length (labelsOf n w R) ≡ n * w
+unfolding labelsOf
+length-labels n w R = length-table (n * w) (λ p. getD (encode (R (p / w))) (p % w) 0)
+
+pub length-counts : (n : ℕ) (R : ℕ → Row) → length (countsOf n R) ≡ n
+unfolding countsOf
+length-counts n R = length-table n (λ v. length (R v))
+
+pub label-at : (n w : ℕ) (R : ℕ → Row) (p : ℕ) → p < n * w → getD (labelsOf n w R) p 0 ≡ getD (encode (R (p / w))) (p % w) 0
+unfolding labelsOf
+label-at n w R p h = getD-table (n * w) (λ q. getD (encode (R (q / w))) (q % w) 0) p 0 h
+
+pub count-at : (n : ℕ) (R : ℕ → Row) (v : ℕ) → v < n → getD (countsOf n R) v 0 ≡ length (R v)
+unfolding countsOf
+count-at n R v h = getD-table n (λ u. length (R u)) v 0 h
+
+-- ---- the same rows, the same rooms
+
+pub labels-ext : (n w : ℕ) (R R′ : ℕ → Row) → 1 ≤ w → ((v : ℕ) → v < n → R v ≡ R′ v) → labelsOf n w R ≡ labelsOf n w R′
+unfolding labelsOf
+labels-ext n w R R′ wide same =
+    table-ext (n * w) (λ p. getD (encode (R (p / w))) (p % w) 0) (λ p. getD (encode (R′ (p / w))) (p % w) 0)
+    (λ p h. ap (λ (x : Row). getD (encode x) (p % w) 0) (same (p / w) (frame-of wide h)))
+
+pub counts-ext : (n : ℕ) (R R′ : ℕ → Row) → ((v : ℕ) → v < n → R v ≡ R′ v) → countsOf n R ≡ countsOf n R′
+unfolding countsOf
+counts-ext n R R′ same =
+    table-ext n (λ v. length (R v)) (λ v. length (R′ v)) (λ v h. ap (λ (x : Row). length x) (same v h))
+
+-- ---- one more entry behind the row of v
+
+module _ (n w : ℕ) (R R′ : ℕ → Row) (v : ℕ) (a : ℕ × ℕ) (inside : v < n) (more : R′ v ≡ R v ++ (a ∷ []))
+    (same : (u : ℕ) → (u ≡ v → ⊥) → R′ u ≡ R u) where
+  there : (p : ℕ) → length (R v) < w → p ≡ v * w + length (R v) → entryOf (a .0) (a .1) ≡ getD (encode (R′ (p / w))) (p % w) 0
+  there p room e =
+      let q : p / w ≡ v = ap (λ (m : ℕ). m / w) e ∙ digits-div v room in
+      let m : p % w ≡ length (R v) = ap (λ (m : ℕ). m % w) e ∙ digits-mod v room in
+      rw (q, m, more) (sym (last-entry (R v) a))
+
+  elsewhere : (p : ℕ) → (p ≡ v * w + length (R v) → ⊥) → getD (encode (R (p / w))) (p % w) 0 ≡ getD (encode (R′ (p / w))) (p % w) 0
+  elsewhere p ne =
+      by-cases (ℕ-discrete (p / w) v)
+      (λ (q : p / w ≡ v).
+      let off : p % w ≡ length (R v) → ⊥ = λ m. ne (sym (div-add-mod' p w) ∙ ap (λ (k : ℕ). k * w + p % w) q ∙ ap (λ (k : ℕ). v * w + k) m) in
+      rw (q, more) (sym (other-entry (R v) a (p % w) off)))
+      (λ q. ap (λ (x : Row). getD (encode x) (p % w) 0) (sym (same (p / w) q)))
+
+  pub labels-gain : length (R v) < w → set (labelsOf n w R) (v * w + length (R v)) (entryOf (a .0) (a .1)) ≡ labelsOf n w R′
+  unfolding labelsOf
+  labels-gain room =
+      let e : ℕ = entryOf (a .0) (a .1) in
+      let at : ℕ = v * w + length (R v) in
+      let was : List ℕ = table (n * w) (λ p. getD (encode (R (p / w))) (p % w) 0) in
+      let long : length was ≡ n * w = length-table (n * w) (λ p. getD (encode (R (p / w))) (p % w) 0) in
+      let fits : at < length was = rw long (row-place inside room) in
+      is-table 0 (set was at e) (n * w) (λ p. getD (encode (R′ (p / w))) (p % w) 0) (length-set was at e ∙ long)
+      (λ p h.
+      at-set was at p e 0 (getD (encode (R′ (p / w))) (p % w) 0) fits (there p room)
+      (λ ne. getD-table (n * w) (λ q. getD (encode (R (q / w))) (q % w) 0) p 0 h ∙ elsewhere p ne))
+
+  pub counts-gain : set (countsOf n R) v (length (R v) + 1) ≡ countsOf n R′
+  unfolding countsOf
+  counts-gain =
+      let was : List ℕ = table n (λ u. length (R u)) in
+      let long : length was ≡ n = length-table n (λ u. length (R u)) in
+      let grown : length (R′ v) ≡ length (R v) + 1 = ap (λ (x : Row). length x) more ∙ length-append (R v) (a ∷ []) in
+      is-table 0 (set was v (length (R v) + 1)) n (λ u. length (R′ u)) (length-set was v (length (R v) + 1) ∙ long)
+      (λ u h.
+      at-set was v u (length (R v) + 1) 0 (length (R′ u)) (rw long inside)
+      (λ (e : u ≡ v). sym grown ∙ ap (λ (k : ℕ). length (R′ k)) (sym e))
+      (λ ne. getD-table n (λ k. length (R k)) u 0 h ∙ ap (λ (x : Row). length x) (sym (same u ne))))
+
+-- ---- a row read back
+
+-- the used part of row v holds the entries of v's row
+module _ (n w : ℕ) (R : ℕ → Row) (v c : ℕ) (h : v < n) (fits : c ≤ w) (is : length (R v) ≡ c) where
+  long : length (take c (drop (v * w) (labelsOf n w R))) ≡ c
+  long =
+      length-take c (drop (v * w) (labelsOf n w R))
+      ∙ omega (arith, length-drop (v * w) (labelsOf n w R), length-labels n w R, suc-mul v w, mul-le-mul-right w h)
+
+  entry-is : (i : ℕ) → i < c → getD (take c (drop (v * w) (labelsOf n w R))) i 0 ≡ getD (encode (R v)) i 0
+  entry-is i low =
+      let here : i < w = omega arith in
+      getD-take c (drop (v * w) (labelsOf n w R)) i 0 low
+      ∙ getD-drop (v * w) (labelsOf n w R) i 0
+      ∙ label-at n w R (v * w + i) (row-place h here)
+      ∙ rw (digits-div v here, digits-mod v here)
+
+  part-is : take c (drop (v * w) (labelsOf n w R)) ≡ encode (R v)
+  part-is =
+      ext-getD 0 (take c (drop (v * w) (labelsOf n w R))) (encode (R v)) (long ∙ sym is ∙ sym (length-encode (R v)))
+      (λ i l. entry-is i (omega (arith, long)))
+
+pub row-is : (n w : ℕ) (R : ℕ → Row) (v : ℕ) → v < n → length (R v) ≤ w → rowAt w (labelsOf n w R) (countsOf n R) v ≡ encode (R v)
+unfolding rowAt part
+row-is n w R v h fits = rw (count-at n R v h) (part-is n w R v (length (R v)) h fits refl)

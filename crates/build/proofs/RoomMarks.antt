@@ -1,0 +1,278 @@
+-- Phase two told by the queue: a test of the queued frames is a test of all frames, and rows stored along the queue are the
+-- rows after the walk.
+use Prim.Native.Nat.{ℕ, zero, suc, _+_, _-_, _*_, _≤_, _<_}
+use mathlib.Core.Path.{_≡_, refl, sym, ap, _∙_}
+use mathlib.Core.Bool.{Bool, true, false, cond, not, _&&_}
+use mathlib.Core.List.{List, [], _∷_, _++_}
+use native.Mathlib.Decide.{ℕ-discrete}
+use native.Mathlib.Omega.{arith}
+use borrow.Author.Tests.{lt-ltb, le-ltb, lt-leb, ltb-true, leb-true, leb-false, eq-eqb, ne-eqb, eqb-true}
+use lib.ListN.{length, getD, set}
+use lib.Dec.{leb, ltb, eqb}
+use Rattle.basics.specs.Places.{some}
+use Rattle.basics.proofs.Laws.{bcase, by-cases, not-both, both, both-true, of-not-true, not-of-true, not-of-false, same-truth, cond-true, cond-false, some-one, some-found, some-not, some-none, some-end}
+use Rattle.theory.specs.Rows.{Row}
+use Rattle.rows.specs.Entry.{entryOf}
+use Rattle.build.specs.Build.{labelsOf, countsOf}
+use Rattle.build.specs.Explore.{Queued}
+use Rattle.build.specs.Settle.{rowsIn, Laid, isKept, lacksRoom, isFar, fitsAll, noneFar, gain, rowsAfter, SettleIn, settleOf}
+use Rattle.build.specs.declared.settle.Walked.the-variants.{Made, Full, Far}
+use Rattle.build.proofs.RoomLaws.{labels-gain, counts-gain, labels-ext, counts-ext, count-at}
+
+-- ---- marks
+
+pub kept-mark : (m : ℕ) → 0 < m → m < 65536 → isKept m ≡ true
+unfolding isKept
+kept-mark m h k = both (ltb 0 m) (ltb m 65536) (lt-ltb 0 m h) (lt-ltb m 65536 k)
+
+pub unmet-mark : (m : ℕ) → m ≤ 0 → isKept m ≡ false
+unfolding isKept
+unmet-mark m h = ap (λ (b : Bool). b && ltb m 65536) (le-ltb 0 m h)
+
+and-no : (a : Bool) → a && false ≡ false
+and-no true = refl
+and-no false = refl
+
+pub dropped-mark : (m : ℕ) → 65536 ≤ m → isKept m ≡ false
+unfolding isKept
+dropped-mark m h = ap (λ (b : Bool). ltb 0 m && b) (le-ltb m 65536 h) ∙ and-no (ltb 0 m)
+
+pub kept-met : (m : ℕ) → isKept m ≡ true → 0 < m
+unfolding isKept
+kept-met m e = ltb-true 0 m (both-true (ltb 0 m) (ltb m 65536) e .0)
+
+pub kept-room : (w count m : ℕ) → lacksRoom w count m ≡ false → isKept m ≡ true → count < w
+unfolding lacksRoom
+kept-room w count m e k = leb-false w count (sym (ap (λ (b : Bool). b && leb w count) k) ∙ e)
+
+-- ---- tests along the queue
+
+-- a fault that only kept frames can have, and no queued frame has, no frame has
+module _ (met queue : List ℕ) (tail : ℕ) (q : Queued met queue tail) (bad : ℕ → Bool) where
+  none-bad : ((v : ℕ) → bad v ≡ true → isKept (getD met v 0) ≡ true) → ((j : ℕ) → j < tail → bad (getD queue j 0) ≡ false)
+      → some bad 0 (length met) ≡ false
+  none-bad only none =
+      some-none bad 0 (length met)
+      (λ v h k.
+      bcase (bad v)
+      (λ e.
+      let (i, l, is) = q .all v (omega arith) (kept-met (getD met v 0) (only v e)) in
+      not-both e (ap bad (sym is) ∙ none i l))
+      (λ e. e))
+
+  one-bad : (j : ℕ) → j < tail → bad (getD queue j 0) ≡ true → some bad 0 (length met) ≡ true
+  one-bad j h e = some-one bad 0 (length met) (getD queue j 0) (omega arith) (omega (arith, q .low j h)) e
+
+module _ (w : ℕ) (counts met queue : List ℕ) (tail : ℕ) (q : Queued met queue tail) where
+  pub fits-done : ((j : ℕ) → j < tail → lacksRoom w (getD counts (getD queue j 0) 0) (getD met (getD queue j 0) 0) ≡ false)
+      → fitsAll w counts met ≡ true
+  unfolding fitsAll lacksRoom
+  fits-done none =
+      not-of-false
+      (none-bad met queue tail q (λ v. isKept (getD met v 0) && leb w (getD counts v 0))
+      (λ v e. both-true (isKept (getD met v 0)) (leb w (getD counts v 0)) e .0) none)
+
+  pub fits-not : (j : ℕ) → j < tail → lacksRoom w (getD counts (getD queue j 0) 0) (getD met (getD queue j 0) 0) ≡ true
+      → fitsAll w counts met ≡ false
+  unfolding fitsAll
+  fits-not j h e =
+      not-of-true (one-bad met queue tail q (λ v. lacksRoom w (getD counts v 0) (getD met v 0)) j h e)
+
+pub fits-each : (w : ℕ) (counts met : List ℕ) (v : ℕ) → fitsAll w counts met ≡ true → v < length met
+    → lacksRoom w (getD counts v 0) (getD met v 0) ≡ false
+unfolding fitsAll
+fits-each w counts met v e h =
+    some-not (λ u. lacksRoom w (getD counts u 0) (getD met u 0)) 0 (length met) v
+    (of-not-true (some (λ u. lacksRoom w (getD counts u 0) (getD met u 0)) 0 (length met)) e) (omega arith) (omega arith)
+
+module _ (met queue : List ℕ) (tail : ℕ) (q : Queued met queue tail) where
+  pub far-done : ((j : ℕ) → j < tail → isFar (getD met (getD queue j 0) 0) ≡ false) → noneFar met ≡ true
+  unfolding noneFar isFar
+  far-done none =
+      not-of-false
+      (none-bad met queue tail q (λ v. isKept (getD met v 0) && ltb 4096 (getD met v 0))
+      (λ v e. both-true (isKept (getD met v 0)) (ltb 4096 (getD met v 0)) e .0) none)
+
+  pub far-not : (j : ℕ) → j < tail → isFar (getD met (getD queue j 0) 0) ≡ true → noneFar met ≡ false
+  unfolding noneFar
+  far-not j h e = not-of-true (one-bad met queue tail q (λ v. isFar (getD met v 0)) j h e)
+
+-- ---- rows stored along the queue
+
+-- frame v stands at one of the first i places of the queue
+abbrev stood : List ℕ → ℕ → ℕ → Bool
+stood queue i v = some (λ j. eqb (getD queue j 0) v) 0 i
+
+-- the rows when the first i frames of the queue have theirs from R′ and the others still from R
+unfoldable pub partly : List ℕ → ℕ → (ℕ → Row) → (ℕ → Row) → ℕ → Row
+partly queue i R R′ v = cond (stood queue i v) (R′ v) (R v)
+
+module _ (queue : List ℕ) (R R′ : ℕ → Row) where
+  pub partly-none : (v : ℕ) → partly queue 0 R R′ v ≡ R v
+  unfolding partly
+  partly-none v = cond-false _ _ (some-end (λ j. eqb (getD queue j 0) v) 0)
+
+  stood-other : (i u : ℕ) → (getD queue i 0 ≡ u → ⊥) → stood queue (i + 1) u ≡ stood queue i u
+  stood-other i u ne =
+      same-truth (stood queue (i + 1) u) (stood queue i u)
+      (λ e.
+      let (j, l, h, is) = some-found (λ k. eqb (getD queue k 0) u) 0 (i + 1) e in
+      by-cases (ℕ-discrete j i)
+      (λ (s : j ≡ i). absurd (ne (ap (λ (k : ℕ). getD queue k 0) (sym s) ∙ eqb-true _ _ is)))
+      (λ s. some-one (λ k. eqb (getD queue k 0) u) 0 i j l (omega arith) is))
+      (λ e.
+      let (j, l, h, is) = some-found (λ k. eqb (getD queue k 0) u) 0 i e in
+      some-one (λ k. eqb (getD queue k 0) u) 0 (i + 1) j l (omega arith) is)
+
+  pub partly-other : (i u : ℕ) → (getD queue i 0 ≡ u → ⊥) → partly queue (i + 1) R R′ u ≡ partly queue i R R′ u
+  unfolding partly
+  partly-other i u ne = ap (λ (b : Bool). cond b (R′ u) (R u)) (stood-other i u ne)
+
+  pub partly-after : (i : ℕ) → partly queue (i + 1) R R′ (getD queue i 0) ≡ R′ (getD queue i 0)
+  unfolding partly
+  partly-after i =
+      cond-true _ _
+      (some-one (λ k. eqb (getD queue k 0) (getD queue i 0)) 0 (i + 1) i (omega arith) (omega arith)
+      (eq-eqb (getD queue i 0) (getD queue i 0) refl))
+
+  pub partly-before : (i : ℕ) → ((j : ℕ) → j < i → getD queue j 0 ≡ getD queue i 0 → ⊥)
+      → partly queue i R R′ (getD queue i 0) ≡ R (getD queue i 0)
+  unfolding partly
+  partly-before i once =
+      cond-false _ _
+      (some-none (λ k. eqb (getD queue k 0) (getD queue i 0)) 0 i
+      (λ j l h. ne-eqb (getD queue j 0) (getD queue i 0) (once j (omega arith))))
+
+  pub partly-all : (tail v : ℕ) → ((i : ℕ) × (i < tail) × (getD queue i 0 ≡ v)) → partly queue tail R R′ v ≡ R′ v
+  unfolding partly
+  partly-all tail v at =
+      cond-true _ _ (some-one (λ k. eqb (getD queue k 0) v) 0 tail (at .0) (omega arith) (omega arith) (eq-eqb _ _ (at .2)))
+
+  pub partly-same : (tail v : ℕ) → R′ v ≡ R v → partly queue tail R R′ v ≡ R′ v
+  unfolding partly
+  partly-same tail v e =
+      bcase (stood queue tail v) (λ b. cond-true _ _ b) (λ b. cond-false _ _ b ∙ sym e)
+
+-- ---- the rows after the walk
+
+module _ (w rank : ℕ) (labels counts met : List ℕ) where
+  pub after-kept : (v : ℕ) → isKept (getD met v 0) ≡ true
+      → rowsAfter w rank labels counts met v ≡ rowsIn w labels counts v ++ ((rank, getD met v 0 - 1) ∷ [])
+  unfolding rowsAfter gain
+  after-kept v e = cond-true _ _ e
+
+  pub after-not : (v : ℕ) → isKept (getD met v 0) ≡ false → rowsAfter w rank labels counts met v ≡ rowsIn w labels counts v
+  unfolding rowsAfter gain
+  after-not v e = cond-false _ _ e
+
+module _ (w rank : ℕ) (labels counts met queue : List ℕ) (tail : ℕ) (s : SettleIn w labels counts met queue tail)
+    (fit : fitsAll w counts met ≡ true) where
+  abbrev before : ℕ → Row
+  before = rowsIn w labels counts
+
+  abbrev after : ℕ → Row
+  after = rowsAfter w rank labels counts met
+
+  -- a kept frame has room for one more entry
+  pub room-left : (v : ℕ) → v < length met → isKept (getD met v 0) ≡ true → length (rowsIn w labels counts v) < w
+  room-left v h k =
+      let few : getD counts v 0 < w = kept-room w (getD counts v 0) (getD met v 0) (fits-each w counts met v fit h) k in
+      let is : getD counts v 0 ≡ length (rowsIn w labels counts v) =
+      ap (λ (l : List ℕ). getD l v 0) (s .laid .numbers) ∙ count-at (length met) (rowsIn w labels counts) v h in
+      omega arith
+
+  -- at its turn a frame's row is still the one before the walk
+  pub still : (i : ℕ) → i < tail
+      → partly queue i (rowsIn w labels counts) (rowsAfter w rank labels counts met) (getD queue i 0)
+      ≡ rowsIn w labels counts (getD queue i 0)
+  still i h = partly-before queue before after i (λ j l. s .queued .once j i l h)
+
+  -- the rows of the other frames stay at that turn
+  others : (i u : ℕ) → (u ≡ getD queue i 0 → ⊥)
+      → partly queue (i + 1) (rowsIn w labels counts) (rowsAfter w rank labels counts met) u
+      ≡ partly queue i (rowsIn w labels counts) (rowsAfter w rank labels counts met) u
+  others i u ne = partly-other queue before after i u (λ e. ne (sym e))
+
+  -- a dropped frame's turn changes nothing
+  idle : (i : ℕ) → i < tail → isKept (getD met (getD queue i 0) 0) ≡ false → (u : ℕ)
+      → partly queue i (rowsIn w labels counts) (rowsAfter w rank labels counts met) u
+      ≡ partly queue (i + 1) (rowsIn w labels counts) (rowsAfter w rank labels counts met) u
+  idle i h k u =
+      by-cases (ℕ-discrete u (getD queue i 0))
+      (λ (e : u ≡ getD queue i 0).
+      rw e (still i h ∙ sym (partly-after queue before after i ∙ after-not w rank labels counts met (getD queue i 0) k)))
+      (λ e. sym (others i u e))
+
+  -- a kept frame's turn puts (rank, level) behind its row
+  grown : (i : ℕ) → i < tail → isKept (getD met (getD queue i 0) 0) ≡ true
+      → partly queue (i + 1) (rowsIn w labels counts) (rowsAfter w rank labels counts met) (getD queue i 0)
+      ≡ partly queue i (rowsIn w labels counts) (rowsAfter w rank labels counts met) (getD queue i 0)
+      ++ ((rank, getD met (getD queue i 0) 0 - 1) ∷ [])
+  grown i h k =
+      partly-after queue before after i
+      ∙ after-kept w rank labels counts met (getD queue i 0) k
+      ∙ ap (λ (x : Row). x ++ ((rank, getD met (getD queue i 0) 0 - 1) ∷ [])) (sym (still i h))
+
+  -- what a turn stores in the label room
+  pub labels-step : (i : ℕ) (L C : List ℕ) → i < tail
+      → L ≡ labelsOf (length met) w (partly queue i (rowsIn w labels counts) (rowsAfter w rank labels counts met))
+      → C ≡ countsOf (length met) (partly queue i (rowsIn w labels counts) (rowsAfter w rank labels counts met))
+      → cond (isKept (getD met (getD queue i 0) 0))
+      (set L (getD queue i 0 * w + getD C (getD queue i 0) 0) (entryOf rank (getD met (getD queue i 0) 0 - 1))) L
+      ≡ labelsOf (length met) w (partly queue (i + 1) (rowsIn w labels counts) (rowsAfter w rank labels counts met))
+  labels-step i L C h p q =
+      let v : ℕ = getD queue i 0 in
+      let low : v < length met = s .queued .low i h in
+      rw (p, q)
+      (bcase (isKept (getD met v 0))
+      (λ k.
+      let room : length (partly queue i before after v) < w = rw (still i h) (room-left v low k) in
+      cond-true _ _ k
+      ∙ rw (count-at (length met) (partly queue i before after) v low)
+      (labels-gain (length met) w (partly queue i before after) (partly queue (i + 1) before after) v (rank, getD met v 0 - 1) low
+      (grown i h k) (others i) room))
+      (λ k.
+      cond-false _ _ k
+      ∙ labels-ext (length met) w (partly queue i before after) (partly queue (i + 1) before after) (s .wide) (λ u l. idle i h k u)))
+
+  -- what it stores in the count room
+  pub counts-step : (i : ℕ) (C : List ℕ) → i < tail
+      → C ≡ countsOf (length met) (partly queue i (rowsIn w labels counts) (rowsAfter w rank labels counts met))
+      → cond (isKept (getD met (getD queue i 0) 0)) (set C (getD queue i 0) (getD C (getD queue i 0) 0 + 1)) C
+      ≡ countsOf (length met) (partly queue (i + 1) (rowsIn w labels counts) (rowsAfter w rank labels counts met))
+  counts-step i C h q =
+      let v : ℕ = getD queue i 0 in
+      let low : v < length met = s .queued .low i h in
+      rw q
+      (bcase (isKept (getD met v 0))
+      (λ k.
+      cond-true _ _ k
+      ∙ rw (count-at (length met) (partly queue i before after) v low)
+      (counts-gain (length met) w (partly queue i before after) (partly queue (i + 1) before after) v (rank, getD met v 0 - 1) low
+      (grown i h k) (others i)))
+      (λ k.
+      cond-false _ _ k
+      ∙ counts-ext (length met) (partly queue i before after) (partly queue (i + 1) before after) (λ u l. idle i h k u)))
+
+  -- when all have had their turn the rows are those after the walk: a frame not met gets nothing
+  pub all-turns : (v : ℕ) → v < length met
+      → partly queue tail (rowsIn w labels counts) (rowsAfter w rank labels counts met) v ≡ rowsAfter w rank labels counts met v
+  all-turns v h =
+      bcase (isKept (getD met v 0))
+      (λ k. partly-all queue before after tail v (s .queued .all v h (kept-met (getD met v 0) k)))
+      (λ k. partly-same queue before after tail v (after-not w rank labels counts met v k))
+
+-- ---- which way the walk ends
+
+module _ (w : ℕ) (counts met : List ℕ) where
+  pub settle-full : fitsAll w counts met ≡ false → settleOf w counts met ≡ Full
+  unfolding settleOf
+  settle-full e = cond-false _ _ e
+
+  pub settle-far : fitsAll w counts met ≡ true → noneFar met ≡ false → settleOf w counts met ≡ Far
+  unfolding settleOf
+  settle-far e f = cond-true _ _ e ∙ cond-false _ _ f
+
+  pub settle-made : fitsAll w counts met ≡ true → noneFar met ≡ true → settleOf w counts met ≡ Made
+  unfolding settleOf
+  settle-made e f = cond-true _ _ e ∙ cond-true _ _ f

@@ -1,0 +1,137 @@
+-- The invariant: a frame that stands at no queue place still to come is 0 in the met room, the queue is 0 at the places
+-- passed and as lent behind them. The turn clears the frame at i and the place i; it ends as i rises to the tail.
+use Prim.Native.Nat.{ℕ, _+_, _-_, _*_, _≤_, _<_}
+use mathlib.Core.Path.{_≡_, refl, sym, ap, _∙_}
+use native.Mathlib.Decide.{ℕ-discrete}
+use native.Mathlib.Omega.{arith}
+use lib.ListN.{length, getD, set, replicate, length-set, length-replicate, getD-replicate}
+use lib.Seq.{ext-getD}
+use Rattle.basics.proofs.Laws.{by-cases, at-set}
+use Rattle.build.proofs.settle.clean.Statement.{statement}
+use Rattle.build.proofs.settle.clean.Tie as tie
+
+abbrev Inv-loop : tie.InvT-loop
+Inv-loop met₀ queue₀ tail i₀ met queue i =
+    (i ≤ tail)
+    × (length met ≡ length met₀)
+    × (length queue ≡ length queue₀)
+    × ((v : ℕ) → v < length met₀ → ((j : ℕ) → i ≤ j → j < tail → getD queue₀ j 0 ≡ v → ⊥) → getD met v 0 ≡ 0)
+    × ((j : ℕ) → j < i → getD queue j 0 ≡ 0)
+    × ((j : ℕ) → i ≤ j → getD queue j 0 ≡ getD queue₀ j 0)
+
+abbrev μ-loop : tie.MeasureT-loop
+μ-loop met₀ queue₀ tail i₀ met queue i = tail - i
+
+loop-holds : tie.Need-loop-holds Inv-loop μ-loop
+loop-holds c = (
+  omega arith,
+  refl,
+  refl,
+  λ v h out.
+      by-cases (ℕ-discrete (getD (c .args .met .now) v 0) 0) (λ (e : getD (c .args .met .now) v 0 ≡ 0). e)
+      (λ ne.
+      let (i, l, is) = c .pre .all v h (omega arith) in
+      absurd (out i (omega arith) l is)),
+  λ j h. absurd (omega arith),
+  λ j h. refl,
+)
+
+mul-v : tie.Need-mul-v Inv-loop μ-loop
+mul-v c = omega arith
+
+slice-read-v : tie.Need-slice-read-v Inv-loop μ-loop
+slice-read-v c = omega arith
+
+cast-v : tie.Need-cast-v Inv-loop μ-loop
+cast-v c = omega (arith, c .slice-known .given (c .before .before .loop .at))
+
+-- the frame at i lies in the met room
+low : (c : tie.After-slice-known Inv-loop μ-loop) → getD (c .before .before .loop .queue) (c .before .before .loop .at) 0 < length (c .before .before .loop .met)
+low c =
+    omega (
+      arith,
+      c .before .before .loop .inv .5 (c .before .before .loop .at) (omega arith),
+      c .before .before .before .pre .low (c .before .before .loop .at) (c .before .loop-test .taken),
+      c .before .before .loop .inv .1,
+    )
+
+mul-met : tie.Need-mul-met Inv-loop μ-loop
+mul-met c = omega (arith, low c)
+
+slice-write-met : tie.Need-slice-write-met Inv-loop μ-loop
+slice-write-met c = low c
+
+mul-queue : tie.Need-mul-queue Inv-loop μ-loop
+mul-queue c = omega arith
+
+slice-write-queue : tie.Need-slice-write-queue Inv-loop μ-loop
+slice-write-queue c = omega arith
+
+add-at : tie.Need-add-at Inv-loop μ-loop
+add-at c = omega arith
+
+loop-less : tie.Need-loop-less Inv-loop μ-loop
+loop-less c = omega arith
+
+loop-again : tie.Need-loop-again Inv-loop μ-loop
+loop-again c =
+    let met = c .before .before .loop .met in
+    let queue = c .before .before .loop .queue in
+    let i = c .before .before .loop .at in
+    let here : getD queue i 0 ≡ getD (c .before .before .before .args .queue .now) i 0 = c .before .before .loop .inv .5 i (omega arith) in (
+      omega arith,
+      length-set met (getD queue i 0) 0 ∙ c .before .before .loop .inv .1,
+      length-set queue i 0 ∙ c .before .before .loop .inv .2,
+      λ v h out.
+          at-set met (getD queue i 0) v 0 0 0 (low c) (λ e. refl)
+          (λ ne.
+          c .before .before .loop .inv .3 v h
+          (λ j g l is.
+          by-cases (ℕ-discrete j i) (λ (e : j ≡ i). ne (sym is ∙ ap (λ (k : ℕ). getD (c .before .before .before .args .queue .now) k 0) e ∙ sym here))
+          (λ e. out j (omega arith) l is))),
+      λ j h. at-set queue i j 0 0 0 (omega arith) (λ e. refl) (λ ne. c .before .before .loop .inv .4 j (omega arith)),
+      λ j h.
+          at-set queue i j 0 0 (getD (c .before .before .before .args .queue .now) j 0) (omega arith) (λ (e : j ≡ i). absurd (omega arith))
+          (λ ne. c .before .before .loop .inv .5 j (omega arith)),
+    )
+
+same-length : tie.Need-same-length Inv-loop μ-loop
+same-length c = c .before .loop .inv .1
+
+same-length-2 : tie.Need-same-length-2 Inv-loop μ-loop
+same-length-2 c = c .before .loop .inv .2
+
+returns : tie.Need-returns Inv-loop μ-loop
+returns c =
+    let n = length (c .before .before .args .met .now) in (
+      ext-getD 0 (c .before .loop .met) (replicate n 0) (c .before .loop .inv .1 ∙ sym (length-replicate n 0))
+          (λ v h.
+          c .before .loop .inv .3 v (omega (arith, c .before .loop .inv .1)) (λ j g l is. absurd (omega arith))
+          ∙ sym (getD-replicate n v 0 0 (omega (arith, c .before .loop .inv .1)))),
+      ext-getD 0 (c .before .loop .queue) (replicate n 0) (c .before .loop .inv .2 ∙ c .before .before .pre .long ∙ sym (length-replicate n 0))
+          (λ j h.
+          by-cases (native.Mathlib.Decide.decLt j (c .before .loop .at)) (c .before .loop .inv .4 j)
+          (λ g. c .before .loop .inv .5 j (omega arith) ∙ c .before .before .pre .rest j (omega arith))
+          ∙ sym (getD-replicate n j 0 0 (omega (arith, c .before .loop .inv .2, c .before .before .pre .long)))),
+    )
+
+pub clean-spec : {M : Type 1} → statement M
+clean-spec =
+    tie.close
+    (tie.spec
+    Inv-loop
+    μ-loop
+    loop-holds
+    mul-v
+    slice-read-v
+    cast-v
+    mul-met
+    slice-write-met
+    mul-queue
+    slice-write-queue
+    add-at
+    loop-less
+    loop-again
+    same-length
+    same-length-2
+    returns)

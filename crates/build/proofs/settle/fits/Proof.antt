@@ -1,0 +1,92 @@
+-- The invariant: no frame at the queue places passed lacks room. It holds again by the test of the frame at i, and it ends
+-- as i rises to the tail; the queue holds every met frame, so then no frame lacks room.
+use Prim.Native.Nat.{ℕ, _+_, _-_, _*_, _≤_, _<_}
+use mathlib.Core.Path.{_≡_, refl, sym, ap, _∙_}
+use mathlib.Core.Bool.{Bool, true, false}
+use native.Mathlib.Omega.{arith}
+use borrow.Author.Count.{below-more}
+use lib.ListN.{length, getD}
+use Rattle.build.specs.Settle.{lacksRoom}
+use Rattle.build.proofs.RoomMarks.{fits-done, fits-not}
+use Rattle.build.proofs.settle.fits.Statement.{statement}
+use Rattle.build.proofs.settle.fits.Tie as tie
+
+abbrev Inv-loop : tie.InvT-loop
+Inv-loop w counts met queue tail i₀ i =
+    (i ≤ tail) × ((j : ℕ) → j < i → lacksRoom w (getD counts (getD queue j 0) 0) (getD met (getD queue j 0) 0) ≡ false)
+
+abbrev μ-loop : tie.MeasureT-loop
+μ-loop w counts met queue tail i₀ i = tail - i
+
+loop-holds : tie.Need-loop-holds Inv-loop μ-loop
+loop-holds c = (omega arith, λ j h. absurd (omega arith))
+
+mul-v : tie.Need-mul-v Inv-loop μ-loop
+mul-v c = omega arith
+
+shared-slice-read-v : tie.Need-shared-slice-read-v Inv-loop μ-loop
+shared-slice-read-v c = omega arith
+
+cast-v : tie.Need-cast-v Inv-loop μ-loop
+cast-v c = omega (arith, c .shared-slice-known4 .given (c .before .before .loop .at))
+
+mul-lacks-room : tie.Need-mul-lacks-room Inv-loop μ-loop
+mul-lacks-room c = omega (arith, c .before .before .before .before .before .before .pre .1 .low (c .before .before .loop .at) (c .before .loop-test .taken))
+
+shared-slice-read-lacks-room : tie.Need-shared-slice-read-lacks-room Inv-loop μ-loop
+shared-slice-read-lacks-room c = omega (arith, c .before .before .before .before .before .before .before .pre .1 .low (c .before .before .before .loop .at) (c .before .before .loop-test .taken))
+
+mul-lacks-room-2 : tie.Need-mul-lacks-room-2 Inv-loop μ-loop
+mul-lacks-room-2 c = omega (arith, c .before .before .before .before .before .before .before .pre .1 .low (c .before .before .before .loop .at) (c .before .before .loop-test .taken))
+
+shared-slice-read-lacks-room-2 : tie.Need-shared-slice-read-lacks-room-2 Inv-loop μ-loop
+shared-slice-read-lacks-room-2 c = omega (arith, c .before .before .before .before .before .before .before .before .pre .1 .low (c .before .before .before .before .loop .at) (c .before .before .before .loop-test .taken))
+
+lacks-room-requires : tie.Need-lacks-room-requires Inv-loop μ-loop
+lacks-room-requires c κs = c .before .before .before .before .before .before .before .before .pre .1 .marked (c .before .before .before .before .loop .at) (c .before .before .before .loop-test .taken)
+
+returns : tie.Need-returns Inv-loop μ-loop
+returns c =
+    sym
+    (fits-not (c .before .before .before .before .before .before .before .before .before .before .args .w) (c .before .before .before .before .before .before .before .before .before .before .args .counts .now) (c .before .before .before .before .before .before .before .before .before .before .args .met .now) (c .before .before .before .before .before .before .before .before .before .before .args .queue .now) (c .before .before .before .before .before .before .before .before .before .before .args .tail)
+    (c .before .before .before .before .before .before .before .before .before .before .pre .1) (c .before .before .before .before .before .before .loop .at) (c .before .before .before .before .before .loop-test .taken) (sym (c .before .lacks-room .ensures) ∙ c .if1 .taken))
+
+add-at : tie.Need-add-at Inv-loop μ-loop
+add-at c = omega arith
+
+loop-less : tie.Need-loop-less Inv-loop μ-loop
+loop-less c = omega arith
+
+loop-again : tie.Need-loop-again Inv-loop μ-loop
+loop-again c = (
+  omega arith,
+  below-more _ _ (c .before .before .before .before .before .before .loop .inv .1)
+      (sym (c .before .lacks-room .ensures) ∙ c .if1 .left),
+)
+
+returns-2 : tie.Need-returns-2 Inv-loop μ-loop
+returns-2 c =
+    sym
+    (fits-done (c .before .before .before .before .before .args .w) (c .before .before .before .before .before .args .counts .now) (c .before .before .before .before .before .args .met .now) (c .before .before .before .before .before .args .queue .now) (c .before .before .before .before .before .args .tail)
+    (c .before .before .before .before .before .pre .1) (λ j h. c .before .loop .inv .1 j (omega arith)))
+
+pub fits-spec : {M : Type 1} → statement M
+fits-spec =
+    tie.close
+    (tie.spec
+    Inv-loop
+    μ-loop
+    loop-holds
+    mul-v
+    shared-slice-read-v
+    cast-v
+    mul-lacks-room
+    shared-slice-read-lacks-room
+    mul-lacks-room-2
+    shared-slice-read-lacks-room-2
+    lacks-room-requires
+    returns
+    add-at
+    loop-less
+    loop-again
+    returns-2)

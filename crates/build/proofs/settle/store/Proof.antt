@@ -1,0 +1,140 @@
+-- The invariant: the two rooms hold the rows after the walk for the frames at the queue places passed, and those before it
+-- for the others. A turn gives the frame at i its entry; it ends as i rises to the tail, and the queue holds every met frame.
+use Prim.Native.Nat.{ℕ, _+_, _-_, _*_, _≤_, _<_}
+use mathlib.Core.Path.{_≡_, refl, sym, ap, _∙_}
+use mathlib.Core.List.{List}
+use mathlib.Core.Bool.{Bool, true, false, cond}
+use native.Mathlib.Omega.{arith}
+use lib.ListN.{length, getD, set}
+use Rattle.theory.specs.Rows.{Row}
+use Rattle.rows.specs.Entry.{entryOf}
+use Rattle.build.specs.Build.{labelsOf, countsOf}
+use Rattle.build.specs.Settle.{rowsIn, rowsAfter, isKept, SettleIn}
+use Rattle.build.proofs.RoomLaws.{labels-ext, counts-ext, length-labels, length-counts, count-at}
+use Rattle.build.proofs.RoomMarks.{partly, partly-none, still, room-left, labels-step, counts-step, all-turns}
+use Rattle.build.proofs.settle.store.Statement.{statement}
+use Rattle.build.proofs.settle.store.Tie as tie
+
+abbrev upto : ℕ → ℕ → List ℕ → List ℕ → List ℕ → List ℕ → ℕ → ℕ → Row
+upto w rank labels counts met queue i = partly queue i (rowsIn w labels counts) (rowsAfter w rank labels counts met)
+
+abbrev Inv-loop : tie.InvT-loop
+Inv-loop w rank labels₀ counts₀ met queue tail i₀ labels counts i =
+    (i ≤ tail)
+    × (labels ≡ labelsOf (length met) w (upto w rank labels₀ counts₀ met queue i))
+    × (counts ≡ countsOf (length met) (upto w rank labels₀ counts₀ met queue i))
+
+abbrev μ-loop : tie.MeasureT-loop
+μ-loop w rank labels₀ counts₀ met queue tail i₀ labels counts i = tail - i
+
+loop-holds : tie.Need-loop-holds Inv-loop μ-loop
+loop-holds c =
+    let w = c .before .before .before .before .args .w in
+    let R : ℕ → Row = rowsIn w (c .before .before .before .before .args .labels .now) (c .before .before .before .before .args .counts .now) in
+    let R′ : ℕ → Row = rowsAfter w (c .before .before .before .before .args .rank) (c .before .before .before .before .args .labels .now) (c .before .before .before .before .args .counts .now) (c .before .before .before .before .args .met .now) in
+    let P : ℕ → Row = partly (c .before .before .before .before .args .queue .now) 0 R R′ in
+    let n = length (c .before .before .before .before .args .met .now) in (
+      omega arith,
+      c .before .before .before .before .pre .0 .laid .places
+          ∙ labels-ext n w R P (c .before .before .before .before .pre .0 .wide) (λ v h. sym (partly-none (c .before .before .before .before .args .queue .now) R R′ v)),
+      c .before .before .before .before .pre .0 .laid .numbers ∙ counts-ext n R P (λ v h. sym (partly-none (c .before .before .before .before .args .queue .now) R R′ v)),
+    )
+
+mul-v : tie.Need-mul-v Inv-loop μ-loop
+mul-v c = omega arith
+
+shared-slice-read-v : tie.Need-shared-slice-read-v Inv-loop μ-loop
+shared-slice-read-v c = omega arith
+
+cast-v : tie.Need-cast-v Inv-loop μ-loop
+cast-v c = omega (arith, c .shared-slice-known3 .given (c .before .before .loop .at))
+
+mul-give : tie.Need-mul-give Inv-loop μ-loop
+mul-give c = omega (arith, c .before .before .before .before .before .before .before .pre .0 .queued .low (c .before .before .loop .at) (c .before .loop-test .taken))
+
+shared-slice-read-give : tie.Need-shared-slice-read-give Inv-loop μ-loop
+shared-slice-read-give c = c .before .before .before .before .before .before .before .before .pre .0 .queued .low (c .before .before .before .loop .at) (c .before .before .loop-test .taken)
+
+give-requires : tie.Need-give-requires Inv-loop μ-loop
+give-requires c κs =
+    let a = c .before .before .before .before .before .before .before .before .before .before .args in
+    let w = c .before .before .before .before .before .before .before .before .before .before .args .w in
+    let i = c .before .before .before .before .before .loop .at in
+    let v = getD (c .before .before .before .before .before .before .before .before .before .before .args .queue .now) i 0 in
+    let n = length (c .before .before .before .before .before .before .before .before .before .before .args .met .now) in
+    let P : ℕ → Row = upto w (c .before .before .before .before .before .before .before .before .before .before .args .rank) (c .before .before .before .before .before .before .before .before .before .before .args .labels .now) (c .before .before .before .before .before .before .before .before .before .before .args .counts .now) (c .before .before .before .before .before .before .before .before .before .before .args .met .now) (c .before .before .before .before .before .before .before .before .before .before .args .queue .now) i in
+    let low : v < n = c .before .before .before .before .before .before .before .before .before .before .pre .0 .queued .low i (c .before .before .before .before .loop-test .taken) in
+    let long : length (c .before .before .before .before .before .loop .counts) ≡ n = ap length (c .before .before .before .before .before .loop .inv .2) ∙ length-counts n P in
+    record {
+      met = c .before .before .before .before .before .before .before .before .before .before .pre .0 .queued .marked (c .before .before .before .before .before .loop .at) (c .before .before .before .before .loop-test .taken);
+      inside = omega arith;
+      long = ap length (c .before .before .before .before .before .loop .inv .1) ∙ length-labels n w P ∙ ap (λ (k : ℕ). k * w) (sym long);
+      width = c .before .before .before .before .before .before .before .before .before .before .pre .0 .width;
+      room =
+          λ kept.
+          rw (ap (λ (l : List ℕ). getD l v 0) (c .before .before .before .before .before .loop .inv .2) ∙ count-at n P v low
+          ∙ ap length (still w (c .before .before .before .before .before .before .before .before .before .before .args .rank) (c .before .before .before .before .before .before .before .before .before .before .args .labels .now) (c .before .before .before .before .before .before .before .before .before .before .args .counts .now) (c .before .before .before .before .before .before .before .before .before .before .args .met .now) (c .before .before .before .before .before .before .before .before .before .before .args .queue .now) (c .before .before .before .before .before .before .before .before .before .before .args .tail) (c .before .before .before .before .before .before .before .before .before .before .pre .0) (c .before .before .before .before .before .before .before .before .before .before .pre .1) i (c .before .before .before .before .loop-test .taken)))
+          (room-left w (c .before .before .before .before .before .before .before .before .before .before .args .rank) (c .before .before .before .before .before .before .before .before .before .before .args .labels .now) (c .before .before .before .before .before .before .before .before .before .before .args .counts .now) (c .before .before .before .before .before .before .before .before .before .before .args .met .now) (c .before .before .before .before .before .before .before .before .before .before .args .queue .now) (c .before .before .before .before .before .before .before .before .before .before .args .tail) (c .before .before .before .before .before .before .before .before .before .before .pre .0) (c .before .before .before .before .before .before .before .before .before .before .pre .1) v low kept);
+    }
+
+add-at : tie.Need-add-at Inv-loop μ-loop
+add-at c = omega arith
+
+loop-less : tie.Need-loop-less Inv-loop μ-loop
+loop-less c = omega arith
+
+loop-again : tie.Need-loop-again Inv-loop μ-loop
+loop-again c = (
+  omega arith,
+  c .before .before .before .before .give .ensures .0
+      ∙ labels-step (c .before .before .before .before .before .before .before .before .before .before .before .before .before .before .before .args .w) (c .before .before .before .before .before .before .before .before .before .before .before .before .before .before .before .args .rank) (c .before .before .before .before .before .before .before .before .before .before .before .before .before .before .before .args .labels .now) (c .before .before .before .before .before .before .before .before .before .before .before .before .before .before .before .args .counts .now) (c .before .before .before .before .before .before .before .before .before .before .before .before .before .before .before .args .met .now) (c .before .before .before .before .before .before .before .before .before .before .before .before .before .before .before .args .queue .now) (c .before .before .before .before .before .before .before .before .before .before .before .before .before .before .before .args .tail)
+      (c .before .before .before .before .before .before .before .before .before .before .before .before .before .before .before .pre .0) (c .before .before .before .before .before .before .before .before .before .before .before .before .before .before .before .pre .1) (c .before .before .before .before .before .before .before .before .before .before .loop .at) (c .before .before .before .before .before .before .before .before .before .before .loop .labels) (c .before .before .before .before .before .before .before .before .before .before .loop .counts) (c .before .before .before .before .before .before .before .before .before .loop-test .taken)
+      (c .before .before .before .before .before .before .before .before .before .before .loop .inv .1) (c .before .before .before .before .before .before .before .before .before .before .loop .inv .2),
+  c .before .before .before .before .give .ensures .1
+      ∙ counts-step (c .before .before .before .before .before .before .before .before .before .before .before .before .before .before .before .args .w) (c .before .before .before .before .before .before .before .before .before .before .before .before .before .before .before .args .rank) (c .before .before .before .before .before .before .before .before .before .before .before .before .before .before .before .args .labels .now) (c .before .before .before .before .before .before .before .before .before .before .before .before .before .before .before .args .counts .now) (c .before .before .before .before .before .before .before .before .before .before .before .before .before .before .before .args .met .now) (c .before .before .before .before .before .before .before .before .before .before .before .before .before .before .before .args .queue .now) (c .before .before .before .before .before .before .before .before .before .before .before .before .before .before .before .args .tail)
+      (c .before .before .before .before .before .before .before .before .before .before .before .before .before .before .before .pre .0) (c .before .before .before .before .before .before .before .before .before .before .before .before .before .before .before .pre .1) (c .before .before .before .before .before .before .before .before .before .before .loop .at) (c .before .before .before .before .before .before .before .before .before .before .loop .counts) (c .before .before .before .before .before .before .before .before .before .loop-test .taken) (c .before .before .before .before .before .before .before .before .before .before .loop .inv .2),
+)
+
+same-length : tie.Need-same-length Inv-loop μ-loop
+same-length c =
+    ap length (c .before .loop .inv .1)
+    ∙ length-labels _ _ _
+    ∙ sym (ap length (c .before .before .before .before .before .before .pre .0 .laid .places) ∙ length-labels _ _ _)
+
+same-length-2 : tie.Need-same-length-2 Inv-loop μ-loop
+same-length-2 c =
+    ap length (c .before .loop .inv .2) ∙ length-counts _ _ ∙ sym (ap length (c .before .before .before .before .before .before .pre .0 .laid .numbers) ∙ length-counts _ _)
+
+returns : tie.Need-returns Inv-loop μ-loop
+returns c =
+    let w = c .before .before .before .before .before .before .args .w in
+    let n = length (c .before .before .before .before .before .before .args .met .now) in
+    let R′ : ℕ → Row = rowsAfter w (c .before .before .before .before .before .before .args .rank) (c .before .before .before .before .before .before .args .labels .now) (c .before .before .before .before .before .before .args .counts .now) (c .before .before .before .before .before .before .args .met .now) in
+    let P : ℕ → ℕ → Row = upto w (c .before .before .before .before .before .before .args .rank) (c .before .before .before .before .before .before .args .labels .now) (c .before .before .before .before .before .before .args .counts .now) (c .before .before .before .before .before .before .args .met .now) (c .before .before .before .before .before .before .args .queue .now) in
+    let end : c .before .loop .at ≡ c .before .before .before .before .before .before .args .tail = omega arith in
+    let same : (v : ℕ) → v < n → P (c .before .loop .at) v ≡ R′ v =
+    λ v h. ap (λ (i : ℕ). P i v) end
+    ∙ all-turns (c .before .before .before .before .before .before .args .w) (c .before .before .before .before .before .before .args .rank) (c .before .before .before .before .before .before .args .labels .now) (c .before .before .before .before .before .before .args .counts .now) (c .before .before .before .before .before .before .args .met .now) (c .before .before .before .before .before .before .args .queue .now) (c .before .before .before .before .before .before .args .tail) (c .before .before .before .before .before .before .pre .0) (c .before .before .before .before .before .before .pre .1) v h in (
+      c .before .loop .inv .1 ∙ labels-ext n w (P (c .before .loop .at)) R′ (c .before .before .before .before .before .before .pre .0 .wide) same,
+      c .before .loop .inv .2 ∙ counts-ext n (P (c .before .loop .at)) R′ same,
+    )
+
+pub store-spec : {M : Type 1} → statement M
+store-spec =
+    tie.close
+    (tie.spec
+    Inv-loop
+    μ-loop
+    loop-holds
+    mul-v
+    shared-slice-read-v
+    cast-v
+    mul-give
+    shared-slice-read-give
+    give-requires
+    add-at
+    loop-less
+    loop-again
+    same-length
+    same-length-2
+    returns)

@@ -1,0 +1,171 @@
+-- What a build gives back and leaves in the rooms it is lent: the paper's tests, and then the rows of the ROW RULE, not of
+-- any walk. n frames, width w, stop k, start positions S, neighbour places L, order O.
+use Prim.Native.Nat.{ℕ, zero, suc, _+_, _*_, _/_, _%_, _≤_}
+use mathlib.Core.Path.{_≡_}
+use mathlib.Core.Bool.{Bool, cond, _&&_, _||_}
+use mathlib.Core.List.{List}
+use lib.ListN.{length, getD, replicate}
+use lib.Dec.{leb, ltb, eqb}
+use Rattle.basics.specs.Places.{first, some, table, sum}
+use Rattle.refusal.specs.Numbers.{SIZE, LENGTH, ROOM, FAR}
+use Rattle.refusal.specs.Tests.{test, _then_}
+use Rattle.refusal.specs.declared.Refusal.{Refusal}
+use Rattle.refusal.specs.declared.Verdict.{Verdict}
+use Rattle.refusal.specs.declared.Verdict.the-variants.{Fine, Refused}
+use Rattle.theory.specs.Distance.{far}
+use Rattle.theory.specs.Links.{Block, Order, hubOf}
+use Rattle.theory.specs.Rows.{Row, hubs}
+use Rattle.theory.specs.Plain.{ones, joinsTo, rowBy}
+use Rattle.links.specs.Links.{placesFit, startsTest, listsTest}
+use Rattle.links.specs.Order.{orderTest}
+use Rattle.rows.specs.Entry.{encode}
+use Rattle.rows.specs.Rooms.{sizesFit}
+use Rattle.build.specs.declared.Built.{Built}
+use Rattle.build.specs.declared.Built.the-variants.{Entries, Refused as NotBuilt}
+
+-- label room: row v starts at place v * W; unused places of a row are 0
+unfoldable pub labelsOf : ℕ → ℕ → (ℕ → Row) → List ℕ
+labelsOf n w R = table (n * w) (λ p. getD (encode (R (p / w))) (p % w) 0)
+
+-- count room: for each frame the number of entries in its row
+unfoldable pub countsOf : ℕ → (ℕ → Row) → List ℕ
+countsOf n R = table n (λ v. length (R v))
+
+-- 1: n from 1 to 4,096, W from 1 to 256, k from 0 to n, neighbour places at most 65,536
+unfoldable pub buildSizes : ℕ → ℕ → ℕ → ℕ → Bool
+buildSizes n w k places = sizesFit n w && (leb k n && placesFit places)
+
+-- 2: n + 1 start positions, n ranks, n * W labels, n counts, two work rooms of n each; the lengths as they are
+unfoldable pub buildRooms : ℕ → ℕ → ℕ → ℕ → ℕ → ℕ → ℕ → ℕ → Bool
+buildRooms n w starts order labels counts met queue =
+    eqb starts (n + 1)
+    && (eqb order n && (eqb labels (n * w) && (eqb counts n && (eqb met n && eqb queue n))))
+
+-- the order of tests before the walks: 1, 2, 3, 4, 5
+unfoldable pub buildTests : ℕ → ℕ → ℕ → List ℕ → List ℕ → List ℕ → ℕ → ℕ → ℕ → ℕ → Verdict
+buildTests n w k S L O labels counts met queue =
+    test (buildSizes n w k (length L)) SIZE 0
+    then test (buildRooms n w (length S) (length O) labels counts met queue) LENGTH 0
+    then startsTest n S L
+    then listsTest n S L
+    then orderTest n O
+
+-- at rank r the row rule gives some frame over W entries
+unfoldable pub fullAt : ℕ → ℕ → List ℕ → List ℕ → List ℕ → ℕ → Bool
+fullAt n w S L O r = some (λ v. ltb w (length (rowBy n S L O (suc r) v))) 0 n
+
+-- the entry that the row rule gives v for the hub of rank r has over 4,095 joins
+unfoldable pub farFrame : ℕ → List ℕ → List ℕ → List ℕ → ℕ → ℕ → Bool
+farFrame n S L O r v =
+    ltb (joinsTo n S L (hubOf O r) v) (hubs (far 1 n) (joinsTo n S L) (hubOf O) r (hubOf O r) v)
+    && ltb 4095 (joinsTo n S L (hubOf O r) v)
+
+-- at rank r a frame is given over 4,095 joins
+unfoldable pub farAt : ℕ → List ℕ → List ℕ → List ℕ → ℕ → Bool
+farAt n S L O r = some (farFrame n S L O r) 0 n
+
+-- the lowest rank below k at which one of the two is so, and k where there is none
+unfoldable pub stopAt : ℕ → ℕ → ℕ → List ℕ → List ℕ → List ℕ → ℕ
+stopAt n w k S L O = first (λ r. fullAt n w S L O r || farAt n S L O r) 0 k
+
+-- 6 or 7, whichever walk comes to it first: ROOM at the lowest such rank, FAR at 0
+unfoldable pub walksTest : ℕ → ℕ → ℕ → List ℕ → List ℕ → List ℕ → Verdict
+walksTest n w k S L O =
+    let r : ℕ = stopAt n w k S L O in
+    let full : Bool = fullAt n w S L O r in
+    test (eqb r k) (cond full ROOM FAR) (cond full r 0)
+
+-- what the tests show: a block, an order, and rooms of the right length
+pub record MakeIn (n w k : ℕ) (S L O labels counts met queue : List ℕ) : Type 0 where
+  pub frames : n ≤ 4096
+  pub wide : 1 ≤ w
+  pub width : w ≤ 256
+  pub stop : k ≤ n
+  pub block : Block n 1 S L ones
+  pub places : length L ≤ 65536
+  pub order : Order n O
+  pub labels-long : length labels ≡ n * w
+  pub counts-long : length counts ≡ n
+  pub met-long : length met ≡ n
+  pub queue-long : length queue ≡ n
+
+-- the same with the rooms cleared
+pub record RunIn (n w k : ℕ) (S L O labels counts met queue noted : List ℕ) : Type 0 where
+  pub frames : n ≤ 4096
+  pub wide : 1 ≤ w
+  pub width : w ≤ 256
+  pub stop : k ≤ n
+  pub block : Block n 1 S L ones
+  pub places : length L ≤ 65536
+  pub order : Order n O
+  pub labels-zero : labels ≡ replicate (n * w) 0
+  pub counts-zero : counts ≡ replicate n 0
+  pub met-zero : met ≡ replicate n 0
+  pub queue-zero : queue ≡ replicate n 0
+  pub noted-far : noted ≡ replicate 4096 65536
+
+-- what the walks give back, and the rooms after them: the rows of the rule at the rank where they stopped
+pub record RunOut (n w k : ℕ) (S L O : List ℕ) (verdict : Verdict)
+    (labels-after counts-after met-after queue-after : List ℕ) : Type 0 where
+  pub answer : verdict ≡ walksTest n w k S L O
+  pub rows : labels-after ≡ labelsOf n w (rowBy n S L O (stopAt n w k S L O))
+  pub numbers : counts-after ≡ countsOf n (rowBy n S L O (stopAt n w k S L O))
+  pub met-zero : met-after ≡ replicate n 0
+  pub queue-zero : queue-after ≡ replicate n 0
+
+-- the paper's number, place and number of entries: success is 0, and on a refusal any other number is 0
+unfoldable pub builtNumber : Built → ℕ
+builtNumber (Entries entries) = 0
+builtNumber (NotBuilt r) = r .number
+
+unfoldable pub builtPlace : Built → ℕ
+builtPlace (Entries entries) = 0
+builtPlace (NotBuilt r) = r .place
+
+unfoldable pub builtEntries : Built → ℕ
+builtEntries (Entries entries) = entries
+builtEntries (NotBuilt r) = 0
+
+-- what comes back, also in the paper's numbers, and what the lent rooms then hold
+pub record Outcome : Type 0 where
+  pub answer : Built
+  pub number : ℕ
+  pub place : ℕ
+  pub entries : ℕ
+  pub labels : List ℕ
+  pub counts : List ℕ
+  pub met : List ℕ
+  pub queue : List ℕ
+
+abbrev pub outcome : Built → List ℕ → List ℕ → List ℕ → List ℕ → Outcome
+outcome answer labels counts met queue =
+    record {
+      answer = answer;
+      number = builtNumber answer;
+      place = builtPlace answer;
+      entries = builtEntries answer;
+      labels = labels;
+      counts = counts;
+      met = met;
+      queue = queue;
+    }
+
+-- all walks made: the number of entries is the sum of all counts, and both work rooms are 0. A walk refused: labels,
+-- counts, work rooms all 0
+unfoldable pub afterWalks : ℕ → ℕ → (ℕ → Row) → Verdict → Outcome
+afterWalks n w R Fine =
+    outcome (Entries (sum (countsOf n R))) (labelsOf n w R) (countsOf n R) (replicate n 0) (replicate n 0)
+afterWalks n w R (Refused r) =
+    outcome (NotBuilt r) (replicate (n * w) 0) (replicate n 0) (replicate n 0) (replicate n 0)
+
+-- a test refused: every room as lent
+unfoldable pub afterTests : Outcome → Verdict → Outcome → Outcome
+afterTests lent Fine made = made
+afterTests lent (Refused r) made = outcome (NotBuilt r) (lent .labels) (lent .counts) (lent .met) (lent .queue)
+
+-- the build: its tests, then the rows by the row rule at stop k
+unfoldable pub buildOf : ℕ → ℕ → ℕ → List ℕ → List ℕ → List ℕ → List ℕ → List ℕ → List ℕ → List ℕ → Outcome
+buildOf n w k S L O labels counts met queue =
+    let made : Outcome = afterWalks n w (rowBy n S L O k) (walksTest n w k S L O) in
+    afterTests (outcome (Entries 0) labels counts met queue)
+    (buildTests n w k S L O (length labels) (length counts) (length met) (length queue)) made

@@ -1,0 +1,224 @@
+// The first half of one hub's walk: every frame it meets, level by level. The met room then holds level + 1 for a frame
+// that is kept, and 65,536 more than that for one that is dropped. It only reads the rows, so the table of the hub's joins
+// by rank is good for the whole of it.
+ghost use mathlib.Core.Path.{_≡_};
+ghost use Prim.Native.Nat.{ℕ, _+_, _<_};
+ghost use lib.ListN.{length, getD};
+ghost use Rattle.rows.specs.Entry.{rankOf};
+ghost use Rattle.build.specs.Walk.{metRoom};
+ghost use Rattle.build.specs.Explore.{within, notedBy, forgotten, drops, DropIn, MeetIn, Grown};
+ghost use Rattle.build.specs.Explore.{StepIn, SpreadIn, Bfs, ExploreIn, Queued};
+use rows::entry::Entry;
+use rows::entry::joins_of;
+use rows::entry::rank_of;
+use rows::part::row_part;
+
+// What the met room has more for a dropped frame: above every level.
+pub const DROPPED: u32 = 65536;
+
+// The joins noted for a rank that the hub's row lacks: above every level.
+const LACKING: u32 = 65536;
+
+// Notes the joins of a row by rank.
+fn note(row: &[Entry], noted: &mut [u32])
+    requires { ⌜ ((i : ℕ) → i < length (now row) → rankOf (getD (now row) i 0) < length (now noted)) ⌝ }
+    ensures { λ _. ⌜ now (noted .exit) ≡ notedBy (now (row .entry)) (now (noted .entry)) ⌝ }
+{
+    let mut i = 0;
+    while i < row.len() {
+        let e = row[i];
+        let rank = rank_of(e);
+        noted[rank] = joins_of(e) as u32;
+        i += 1;
+    }
+}
+
+// Takes the ranks of a row out of the notes again.
+fn forget(row: &[Entry], noted: &mut [u32])
+    requires { ⌜ ((i : ℕ) → i < length (now row) → rankOf (getD (now row) i 0) < length (now noted)) ⌝ }
+    ensures { λ _. ⌜ now (noted .exit) ≡ forgotten (now (row .entry)) (now (noted .entry)) ⌝ }
+{
+    let mut i = 0;
+    while i < row.len() {
+        let e = row[i];
+        let rank = rank_of(e);
+        noted[rank] = LACKING;
+        i += 1;
+    }
+}
+
+// Whether a row and the noted one have an answer of at most `level`. A rank that is not noted gives a sum above it.
+fn near(row: &[Entry], noted: &[u32], level: usize) -> bool
+    requires { ⌜ ((i : ℕ) → i < length (now row) → rankOf (getD (now row) i 0) < length (now noted)) ⌝ }
+    ensures { λ r. ⌜ r ≡ within (now (noted .entry)) (now (row .entry)) level ⌝ }
+{
+    let mut i = 0;
+    while i < row.len() {
+        let e = row[i];
+        let rank = rank_of(e);
+        let joins = joins_of(e);
+        let sum = joins + noted[rank] as usize;
+        if sum <= level {
+            return true;
+        }
+        i += 1;
+    }
+    false
+}
+
+// Meets the frames in the list of u that are not met yet, at `x`, and puts them behind the queue; gives back its new end.
+fn meet(
+    starts: &[u32],
+    places: &[u32],
+    u: usize,
+    x: u32,
+    met: &mut [u32],
+    queue: &mut [u32],
+    tail: usize,
+) -> usize
+    requires { ⌜ MeetIn (now starts) (now places) u x (now met) (now queue) tail ⌝ }
+    ensures { λ r. ⌜
+        Grown (now (starts .entry)) (now (places .entry)) u (getD (now (starts .entry)) (u + 1) 0) x
+        (now (met .entry)) (now (queue .entry)) tail (now (met .exit)) (now (queue .exit)) r
+        ⌝ }
+{
+    let end = starts[u + 1] as usize;
+    let mut at = starts[u] as usize;
+    let mut grown = tail;
+    while at < end {
+        let v = places[at] as usize;
+        at += 1;
+        if met[v] == 0 {
+            met[v] = x;
+            queue[grown] = v as u32;
+            grown += 1;
+        }
+    }
+    grown
+}
+
+// Whether the answer for the noted hub and u is at most `level`.
+fn dropped(
+    w: usize,
+    labels: &[Entry],
+    counts: &[u32],
+    noted: &[u32],
+    u: usize,
+    level: usize,
+) -> bool
+    requires { ⌜ DropIn (length (now counts)) w (now labels) (now counts) (now noted) u ⌝ }
+    ensures { λ r. ⌜ r ≡ drops w (now (labels .entry)) (now (counts .entry)) (now (noted .entry)) u level ⌝ }
+{
+    let count = counts[u] as usize;
+    let row = row_part(labels, w, u, count);
+    near(row, noted, level)
+}
+
+// The frame at `head`: dropped, it gets its mark; else its neighbours that are not met yet are met one level on.
+fn step(
+    w: usize,
+    starts: &[u32],
+    places: &[u32],
+    labels: &[Entry],
+    counts: &[u32],
+    noted: &[u32],
+    met: &mut [u32],
+    queue: &mut [u32],
+    head: usize,
+    tail: usize,
+) -> usize
+    requires { ⌜
+        StepIn (length (now counts)) w (now starts) (now places) (now labels) (now counts) (now noted) (now met) (now queue)
+        head tail
+        ⌝ }
+    ensures { λ r. ⌜
+        Bfs (length (now (counts .entry))) (now (starts .entry)) (now (places .entry))
+        (drops w (now (labels .entry)) (now (counts .entry)) (now (noted .entry))) (getD (now (queue .entry)) 0 0)
+        (now (met .exit)) (now (queue .exit)) (head + 1) r
+        ⌝ }
+{
+    let u = queue[head] as usize;
+    let x = met[u];
+    let level = (x - 1) as usize;
+    if dropped(w, labels, counts, noted, u, level) {
+        met[u] = x + DROPPED;
+        return tail;
+    }
+    meet(starts, places, u, x + 1, met, queue, tail)
+}
+
+// The walk from the hub, level by level along the queue; gives back how many frames it met.
+fn spread(
+    w: usize,
+    starts: &[u32],
+    places: &[u32],
+    labels: &[Entry],
+    counts: &[u32],
+    noted: &[u32],
+    hub: usize,
+    met: &mut [u32],
+    queue: &mut [u32],
+) -> usize
+    requires { ⌜
+        SpreadIn (length (now counts)) w (now starts) (now places) (now labels) (now counts) (now noted) hub (now met)
+        (now queue)
+        ⌝ }
+    ensures { λ r. ⌜
+        Bfs (length (now (counts .entry))) (now (starts .entry)) (now (places .entry))
+        (drops w (now (labels .entry)) (now (counts .entry)) (now (noted .entry))) hub
+        (now (met .exit)) (now (queue .exit)) r r
+        ⌝ }
+{
+    met[hub] = 1;
+    queue[0] = hub as u32;
+    let mut head = 0;
+    let mut tail = 1;
+    while head < tail {
+        tail = step(
+            w,
+            starts,
+            places,
+            labels,
+            counts,
+            noted,
+            met,
+            queue,
+            head,
+            tail,
+        );
+        head += 1;
+    }
+    tail
+}
+
+// Meets every frame of the walk of `hub`: levels and marks in `met`, the frames in `queue`; gives back how many.
+pub fn explore(
+    w: usize,
+    starts: &[u32],
+    places: &[u32],
+    labels: &[Entry],
+    counts: &[u32],
+    hub: usize,
+    met: &mut [u32],
+    queue: &mut [u32],
+    noted: &mut [u32],
+) -> usize
+    requires { ⌜
+        ExploreIn (length (now counts)) w (now starts) (now places) (now labels) (now counts) hub (now met) (now queue)
+        (now noted)
+        ⌝ }
+    ensures notes { λ _. ⌜ now (noted .exit) ≡ now (noted .entry) ⌝ }
+    ensures levels { λ _. ⌜
+        now (met .exit)
+        ≡ metRoom (length (now (counts .entry))) w (now (starts .entry)) (now (places .entry)) (now (labels .entry))
+        (now (counts .entry)) hub
+        ⌝ }
+    ensures frames { λ r. ⌜ Queued (now (met .exit)) (now (queue .exit)) r ⌝ }
+{
+    let count = counts[hub] as usize;
+    let own = row_part(labels, w, hub, count);
+    note(own, noted);
+    let tail = spread(w, starts, places, labels, counts, noted, hub, met, queue);
+    forget(own, noted);
+    tail
+}

@@ -1,0 +1,32 @@
+-- Each arm gives what the definition gives for that answer, and the spread question promises the answer's numbers.
+use mathlib.Core.Path.{sym, ap, _∙_}
+use borrow.Author.Needs.{needs}
+use Rattle.rows.specs.Spread.{spreadTold}
+use Rattle.rows.specs.declared.spread.SpreadAnswer.{SpreadAnswer}
+use Rattle.capi.specs.Outs.{spreadOuts}
+use Rattle.capi.proofs.seam_spread.Statement.{statement}
+use Rattle.capi.proofs.seam_spread.Tie as tie
+
+spread-requires : tie.Need-spread-requires
+spread-requires c κs = search needs
+
+enum-known-joins : tie.Need-enum-known-joins
+enum-known-joins c = search needs
+
+enum-known-r : tie.Need-enum-known-r
+enum-known-r c = search needs
+
+returns : tie.Need-returns
+unfolding spreadOuts spreadTold
+returns c =
+    sym (ap (λ (a : SpreadAnswer). spreadOuts (spreadTold a)) (c .before .joins .given .1))
+    ∙ ap spreadOuts (c .before .before .before .spread .ensures .1)
+
+returns-2 : tie.Need-returns-2
+unfolding spreadOuts spreadTold
+returns-2 c =
+    sym (ap (λ (a : SpreadAnswer). spreadOuts (spreadTold a)) (c .before .r .given .1))
+    ∙ ap spreadOuts (c .before .before .before .spread .ensures .1)
+
+pub seam-spread-spec : {M : Type 1} → statement M
+seam-spread-spec = tie.close (tie.spec spread-requires enum-known-joins enum-known-r returns returns-2)

@@ -1,0 +1,64 @@
+-- What a C caller sees of a call, for each answer of the crates below: success is 0; each refusal also gives a place, 0 where
+-- none is named; any other number that the call hands back is then 0.
+use Prim.Native.Nat.{ℕ}
+use mathlib.Core.Bool.{cond}
+use mathlib.Core.List.{List, [], _∷_}
+use lib.ListN.{length}
+use Rattle.refusal.specs.Tests.{numberOf, placeOf}
+use Rattle.refusal.specs.declared.Verdict.{Verdict}
+use Rattle.links.specs.Order.{Ordered}
+use Rattle.rows.specs.Rooms.{checkRow}
+use Rattle.rows.specs.Lookup.{rowOf, rowStart}
+use Rattle.rows.specs.Pair as pair
+use Rattle.rows.specs.Spread as spread
+use Rattle.file.specs.Writer.{Wrote}
+use Rattle.file.specs.Reader as reader
+use Rattle.file.specs.declared.Opened.{Opened}
+
+-- the number returned, `*place`, the other out values and the lent rooms, both in the order of the parameters
+pub record Outs : Type 0 where
+  pub number : ℕ
+  pub place : ℕ
+  pub values : List ℕ
+  pub rooms : List (List ℕ)
+
+abbrev pub outs : ℕ → ℕ → List ℕ → List (List ℕ) → Outs
+outs number place values rooms = record { number = number; place = place; values = values; rooms = rooms }
+
+-- a test: 0 or a refusal
+unfoldable pub testOuts : Verdict → Outs
+testOuts verdict = outs (numberOf verdict) (placeOf verdict) [] []
+
+-- order by degree: a verdict, and the order room
+unfoldable pub orderOuts : Ordered → Outs
+orderOuts o = outs (numberOf (o .verdict)) (placeOf (o .verdict)) [] (o .room ∷ [])
+
+-- the pair question: 1 and the joins, or 0 and 0 for none
+unfoldable pub pairOuts : pair.Told → Outs
+pairOuts t = outs (t .number) (t .place) (cond (t .found) 1 0 ∷ (t .joins ∷ [])) []
+
+-- the row lookup: where the used part of that frame's row starts inside the label room, and its length
+unfoldable pub rowOuts : ℕ → ℕ → List ℕ → List ℕ → ℕ → Outs
+rowOuts n w labels counts v =
+    outs (numberOf (checkRow n w labels counts v)) (placeOf (checkRow n w labels counts v))
+    (rowStart n w labels counts v ∷ (length (rowOf n w labels counts v) ∷ [])) []
+
+-- the spread question
+unfoldable pub spreadOuts : spread.SpreadTold → Outs
+spreadOuts t = outs (t .number) (t .place) (t .spread ∷ []) []
+
+-- the writer: the bytes it filled, and the output room
+unfoldable pub writeOuts : Wrote → Outs
+writeOuts o = outs (o .number) (o .place) (o .bytes ∷ []) (o .room ∷ [])
+
+-- the header: n and k
+unfoldable pub headerOuts : Opened → Outs
+headerOuts a =
+    let t : reader.Told = reader.told a in
+    outs (t .number) (t .place) (t .frames ∷ (t .stop ∷ [])) []
+
+-- the reader: n and k, and the order room, the label room and the count room
+unfoldable pub readOuts : reader.Outcome → Outs
+readOuts o =
+    let t : reader.Told = reader.told (o .answer) in
+    outs (t .number) (t .place) (t .frames ∷ (t .stop ∷ [])) (o .order ∷ (o .labels ∷ (o .counts ∷ [])))

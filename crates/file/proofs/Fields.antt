@@ -1,0 +1,232 @@
+-- The laws of the reader's tests, one field after another: where a test stops, where it goes on, where it ends.
+use Prim.Native.Nat.{ℕ, zero, suc, _+_, _-_, _*_, _≤_, _<_}
+use mathlib.Core.Path.{_≡_, refl, sym, ap, ap₂, _∙_}
+use mathlib.Core.Bool.{Bool, true, false, _&&_}
+use mathlib.Core.List.{List}
+use native.Mathlib.Omega.{arith}
+use native.Mathlib.Numerals.{add-one}
+use lib.ListN.{length, getD, set, replicate, length-set, length-replicate, getD-replicate}
+use lib.Dec.{leb, ltb}
+use borrow.Author.Tests.{le-leb, lt-leb, lt-ltb, le-ltb, leb-true, eq-eqb, ne-eqb}
+use Rattle.basics.proofs.Laws.{both, not-of-true, not-of-false, less-one, at-set}
+use Rattle.refusal.specs.Numbers.{ROOM, FIELD, LONG}
+use Rattle.refusal.specs.Tests.{refusal}
+use Rattle.refusal.specs.declared.Refusal.{Refusal}
+use Rattle.refusal.specs.declared.Verdict.{Verdict}
+use Rattle.refusal.proofs.Laws.{test-fine, test-refused, test-held, then-fine, after-fine, after-refused}
+use Rattle.links.specs.Order.{stands}
+use Rattle.links.proofs.Order.{rank-out, rank-again, rank-sound, stands-none, stands-this, stands-other}
+use Rattle.file.specs.Bits.{fieldAt, byteLen, padLen}
+use Rattle.file.specs.Reader.{shortTest, fieldTest, frameAt, orderFieldTest, orderFrom, entryTest, entriesFrom, rowTest, behind, whole, goOn, rowsFrom, rowsOf, endTest, bodyTest}
+use Rattle.file.specs.Steps.{Seen}
+use Rattle.file.proofs.Steps.{field-fine, field-refused, field-short, field-there, field-legal}
+
+-- ---- the order
+
+module _ (s : List ℕ) (n r : ℕ) where
+  pub order-short : {f : Refusal} → shortTest s (32 + 12 * r) 12 ≡ Verdict.Refused f → orderFieldTest s n r ≡ Verdict.Refused f
+  unfolding orderFieldTest
+  order-short e = field-short s _ 12 _ e
+
+  pub order-out : shortTest s (32 + 12 * r) 12 ≡ Verdict.Fine → n ≤ frameAt s r
+      → orderFieldTest s n r ≡ Verdict.Refused (refusal FIELD (32 + 12 * r))
+  unfolding orderFieldTest
+  order-out e h = field-refused s _ 12 e (not-of-true (rank-out n (frameAt s) r h))
+
+  pub order-again : shortTest s (32 + 12 * r) 12 ≡ Verdict.Fine → stands (frameAt s) r (frameAt s r) ≡ true
+      → orderFieldTest s n r ≡ Verdict.Refused (refusal FIELD (32 + 12 * r))
+  unfolding orderFieldTest
+  order-again e h = field-refused s _ 12 e (not-of-true (rank-again n (frameAt s) r h))
+
+  pub order-legal : shortTest s (32 + 12 * r) 12 ≡ Verdict.Fine → frameAt s r < n → stands (frameAt s) r (frameAt s r) ≡ false
+      → orderFieldTest s n r ≡ Verdict.Fine
+  unfolding orderFieldTest
+  order-legal e h k = field-fine s _ 12 e (not-of-false (rank-sound n (frameAt s) r h k))
+
+  pub order-stop : {f : Refusal} → r < n → orderFieldTest s n r ≡ Verdict.Refused f → orderFrom s n r (n - r) ≡ Verdict.Refused f
+  unfolding orderFrom
+  order-stop h e = ap (orderFrom s n r) (less-one h) ∙ after-refused _ e
+
+  pub order-on : r < n → orderFieldTest s n r ≡ Verdict.Fine → orderFrom s n (r + 1) (n - (r + 1)) ≡ orderFrom s n r (n - r)
+  unfolding orderFrom
+  order-on h e =
+      ap (λ (k : ℕ). orderFrom s n k (n - (r + 1))) (add-one r) ∙ sym (ap (orderFrom s n r) (less-one h) ∙ after-fine _ e)
+
+  pub order-end : n ≤ r → orderFrom s n r (n - r) ≡ Verdict.Fine
+  unfolding orderFrom
+  order-end h = let none : n - r ≡ 0 = omega arith in ap (orderFrom s n r) none
+
+-- no frame stands below rank 0
+pub seen-none : (s : List ℕ) → Seen s (replicate 4096 false) 0
+seen-none s =
+    record {
+      long = length-replicate 4096 false;
+      has = λ v low. getD-replicate 4096 v false false low ∙ sym (stands-none (frameAt s) v);
+    }
+
+-- what the flags say of the next frame
+pub seen-says : {s : List ℕ} {seen : List Bool} {r v : ℕ} {b : Bool} → Seen s seen r → v ≡ frameAt s r → v < 4096
+    → getD seen v false ≡ b → stands (frameAt s) r (frameAt s r) ≡ b
+seen-says {s} {seen} {r} {v} h e small q = ap (stands (frameAt s) r) (sym e) ∙ sym (h .has v small) ∙ q
+
+-- the frame of a legal field is seen from now on
+pub seen-on : {s : List ℕ} {seen : List Bool} {r v : ℕ} → Seen s seen r → v ≡ frameAt s r → v < 4096
+    → Seen s (set seen v true) (r + 1)
+seen-on {s} {seen} {r} {v} h e small =
+    record {
+      long = length-set seen v true ∙ h .long;
+      has = λ u low.
+          at-set seen v u true false (stands (frameAt s) (r + 1) u) (omega (arith, h .long))
+          (λ q. sym (stands-this (frameAt s) r u (q ∙ e)))
+          (λ q. h .has u low ∙ sym (stands-other (frameAt s) r u (λ i. q (i ∙ sym e))));
+    }
+
+-- ---- one entry, and the entries of a row
+
+module _ (s : List ℕ) (n k p low : ℕ) where
+  pub entry-rank : {f : Refusal} → shortTest s p 12 ≡ Verdict.Refused f → entryTest s n k p low ≡ Verdict.Refused f
+  unfolding entryTest
+  entry-rank e = after-refused _ (field-short s p 12 _ e)
+
+  pub entry-low : shortTest s p 12 ≡ Verdict.Fine → fieldAt s p 12 < low
+      → entryTest s n k p low ≡ Verdict.Refused (refusal FIELD p)
+  unfolding entryTest
+  entry-low e h = after-refused _ (field-refused s p 12 e (rw (lt-leb low (fieldAt s p 12) h)))
+
+  pub entry-high : shortTest s p 12 ≡ Verdict.Fine → low ≤ fieldAt s p 12 → k ≤ fieldAt s p 12
+      → entryTest s n k p low ≡ Verdict.Refused (refusal FIELD p)
+  unfolding entryTest
+  entry-high e h g =
+      after-refused _ (field-refused s p 12 e (rw (le-leb low (fieldAt s p 12) h, le-ltb (fieldAt s p 12) k g)))
+
+  rank-legal : shortTest s p 12 ≡ Verdict.Fine → low ≤ fieldAt s p 12 → fieldAt s p 12 < k
+      → fieldTest s p 12 (leb low (fieldAt s p 12) && ltb (fieldAt s p 12) k) ≡ Verdict.Fine
+  rank-legal e h g = field-fine s p 12 e (both _ _ (le-leb _ _ h) (lt-ltb _ _ g))
+
+  pub entry-joins : {f : Refusal} → shortTest s p 12 ≡ Verdict.Fine → low ≤ fieldAt s p 12 → fieldAt s p 12 < k
+      → shortTest s (p + 12) 12 ≡ Verdict.Refused f → entryTest s n k p low ≡ Verdict.Refused f
+  unfolding entryTest
+  entry-joins e h g j = after-fine _ (rank-legal e h g) ∙ field-short s _ 12 _ j
+
+  pub entry-far : shortTest s p 12 ≡ Verdict.Fine → low ≤ fieldAt s p 12 → fieldAt s p 12 < k
+      → shortTest s (p + 12) 12 ≡ Verdict.Fine → n ≤ fieldAt s (p + 12) 12
+      → entryTest s n k p low ≡ Verdict.Refused (refusal FIELD (p + 12))
+  unfolding entryTest
+  entry-far e h g j l = after-fine _ (rank-legal e h g) ∙ field-refused s _ 12 j (le-ltb _ _ l)
+
+  pub entry-legal : shortTest s p 12 ≡ Verdict.Fine → low ≤ fieldAt s p 12 → fieldAt s p 12 < k
+      → shortTest s (p + 12) 12 ≡ Verdict.Fine → fieldAt s (p + 12) 12 < n → entryTest s n k p low ≡ Verdict.Fine
+  unfolding entryTest
+  entry-legal e h g j l = after-fine _ (rank-legal e h g) ∙ field-fine s _ 12 j (lt-ltb _ _ l)
+
+  pub entries-stop : (left : ℕ) {f : Refusal} → 0 < left → entryTest s n k p low ≡ Verdict.Refused f
+      → entriesFrom s n k p low left ≡ Verdict.Refused f
+  unfolding entriesFrom
+  entries-stop zero h e = absurd (omega arith)
+  entries-stop (suc left) h e = after-refused _ e
+
+  pub entries-on : (left rank : ℕ) → 0 < left → entryTest s n k p low ≡ Verdict.Fine → rank ≡ fieldAt s p 12
+      → entriesFrom s n k (p + 24) (rank + 1) (left - 1) ≡ entriesFrom s n k p low left
+  unfolding entriesFrom
+  entries-on zero rank h e q = absurd (omega arith)
+  entries-on (suc left) rank h e q =
+      let less : suc left - 1 ≡ left = omega arith in
+      ap₂ (λ (x l : ℕ). entriesFrom s n k (p + 24) (x + 1) l) q less ∙ sym (after-fine _ e)
+
+  pub entries-end : (left : ℕ) → left ≤ 0 → entriesFrom s n k p low left ≡ Verdict.Fine
+  unfolding entriesFrom
+  entries-end zero h = refl
+  entries-end (suc left) h = absurd (omega arith)
+
+-- ---- one row, and all rows
+
+module _ (s : List ℕ) (n k w v p : ℕ) where
+  pub row-short : {f : Refusal} → shortTest s p 9 ≡ Verdict.Refused f → rowTest s n k w v p ≡ Verdict.Refused f
+  unfolding rowTest
+  row-short e = after-refused _ (field-short s p 9 _ e)
+
+  pub row-count : shortTest s p 9 ≡ Verdict.Fine → 256 < fieldAt s p 9 → rowTest s n k w v p ≡ Verdict.Refused (refusal FIELD p)
+  unfolding rowTest
+  row-count e h = after-refused _ (field-refused s p 9 e (lt-leb _ _ h))
+
+  pub row-room : shortTest s p 9 ≡ Verdict.Fine → fieldAt s p 9 ≤ 256 → w < fieldAt s p 9
+      → rowTest s n k w v p ≡ Verdict.Refused (refusal ROOM v)
+  unfolding rowTest
+  row-room e h g = after-fine _ (field-fine s p 9 e (le-leb _ _ h)) ∙ after-refused _ (test-refused ROOM v (lt-leb _ _ g))
+
+  pub row-entries : {count : ℕ} → shortTest s p 9 ≡ Verdict.Fine → count ≡ fieldAt s p 9 → count ≤ 256 → count ≤ w
+      → rowTest s n k w v p ≡ entriesFrom s n k (p + 9) 0 count
+  unfolding rowTest
+  row-entries e q h g =
+      after-fine _ (field-fine s p 9 e (le-leb (fieldAt s p 9) 256 (omega arith)))
+      ∙ after-fine _ (test-fine ROOM v (le-leb (fieldAt s p 9) w (omega arith)))
+      ∙ ap (entriesFrom s n k (p + 9) 0) (sym q)
+
+  -- the count of a row that is fine
+  pub row-most : rowTest s n k w v p ≡ Verdict.Fine → fieldAt s p 9 ≤ 256
+  unfolding rowTest
+  row-most e = leb-true _ _ (field-legal s p 9 _ (then-fine _ _ e .0))
+
+  pub row-fits : rowTest s n k w v p ≡ Verdict.Fine → fieldAt s p 9 ≤ w
+  unfolding rowTest
+  row-fits e = leb-true _ _ (test-held _ ROOM v (then-fine _ _ (then-fine _ _ e .1) .0))
+
+  pub row-there : rowTest s n k w v p ≡ Verdict.Fine → byteLen (p + 9) ≤ length s
+  unfolding rowTest
+  row-there e = field-there s p 9 _ (then-fine _ _ e .0)
+
+  pub row-fine : rowTest s n k w v p ≡ Verdict.Fine → entriesFrom s n k (p + 9) 0 (fieldAt s p 9) ≡ Verdict.Fine
+  unfolding rowTest
+  row-fine e = then-fine _ _ (then-fine _ _ e .1) .1
+
+  pub rows-stop : {f : Refusal} → v < n → rowTest s n k w v p ≡ Verdict.Refused f
+      → rowsFrom s n k w v p (n - v) ≡ whole v p (Verdict.Refused f)
+  unfolding rowsFrom goOn
+  rows-stop h e =
+      ap (rowsFrom s n k w v p) (less-one h)
+      ∙ ap (λ (t : Verdict). goOn t v p (rowsFrom s n k w (suc v) (behind s p) (n - (v + 1)))) e
+
+  pub rows-on : {next : ℕ} → v < n → rowTest s n k w v p ≡ Verdict.Fine → next ≡ behind s p
+      → rowsFrom s n k w (v + 1) next (n - (v + 1)) ≡ rowsFrom s n k w v p (n - v)
+  unfolding rowsFrom goOn
+  rows-on h e q =
+      ap₂ (λ (u x : ℕ). rowsFrom s n k w u x (n - (v + 1))) (add-one v) q
+      ∙ sym
+      (ap (rowsFrom s n k w v p) (less-one h)
+      ∙ ap (λ (t : Verdict). goOn t v p (rowsFrom s n k w (suc v) (behind s p) (n - (v + 1)))) e)
+
+  pub rows-end : n ≤ v → rowsFrom s n k w v p (n - v) ≡ whole v p Verdict.Fine
+  unfolding rowsFrom
+  rows-end h = let none : n - v ≡ 0 = omega arith in ap (rowsFrom s n k w v p) none
+
+-- ---- the end
+
+module _ (s : List ℕ) (p : ℕ) where
+  pub end-fill : (fieldAt s p (padLen p) ≡ 0 → ⊥) → endTest s p ≡ Verdict.Refused (refusal FIELD p)
+  unfolding endTest
+  end-fill h = after-refused _ (test-refused FIELD p (ne-eqb _ _ h))
+
+  pub end-long : fieldAt s p (padLen p) ≡ 0 → byteLen p < length s → endTest s p ≡ Verdict.Refused (refusal LONG (byteLen p))
+  unfolding endTest
+  end-long h g = after-fine _ (test-fine FIELD p (eq-eqb _ _ h)) ∙ test-refused LONG (byteLen p) (lt-leb _ _ g)
+
+  pub end-fine : fieldAt s p (padLen p) ≡ 0 → length s ≤ byteLen p → endTest s p ≡ Verdict.Fine
+  unfolding endTest
+  end-fine h g = after-fine _ (test-fine FIELD p (eq-eqb _ _ h)) ∙ test-fine LONG (byteLen p) (le-leb _ _ g)
+
+-- ---- everything behind the header
+
+module _ (s : List ℕ) (n k w : ℕ) where
+  pub body-order : {f : Refusal} → orderFrom s n 0 n ≡ Verdict.Refused f → bodyTest s n k w ≡ Verdict.Refused f
+  unfolding bodyTest
+  body-order e = after-refused _ e
+
+  pub body-rows : {f : Refusal} → orderFrom s n 0 n ≡ Verdict.Fine → rowsOf s n k w .verdict ≡ Verdict.Refused f
+      → bodyTest s n k w ≡ Verdict.Refused f
+  unfolding bodyTest
+  body-rows e g = after-fine _ e ∙ after-refused _ g
+
+  pub body-end : (p : ℕ) → orderFrom s n 0 n ≡ Verdict.Fine → rowsOf s n k w .verdict ≡ Verdict.Fine
+      → p ≡ rowsOf s n k w .bit → bodyTest s n k w ≡ endTest s p
+  unfolding bodyTest
+  body-end p e g q = after-fine _ e ∙ after-fine _ g ∙ ap (endTest s) (sym q)

@@ -1,0 +1,161 @@
+-- An index that the writer's tests let through: every value fits its field, every row lies in the label room, and the file
+-- has as many bytes as the paper says.
+use Prim.Native.Nat.{ℕ, _+_, _*_, _/_, _≤_, _<_}
+use mathlib.Core.Path.{_≡_, sym, subst, _∙_}
+use mathlib.Core.Bool.{true, not, _&&_}
+use mathlib.Core.List.{List, _++_}
+use native.Mathlib.Omega.{arith}
+use borrow.Author.Tests.{le-leb, leb-true, eqb-true, eq-eqb}
+use lib.ListN.{length, getD}
+use lib.Dec.{leb, eqb}
+use Rattle.basics.specs.Places.{sum, first}
+use Rattle.basics.proofs.Laws.{both-true, both, first-before, of-not-false}
+use Rattle.refusal.specs.Tests.{test, _then_}
+use Rattle.refusal.specs.declared.Verdict.the-variants.{Fine}
+use Rattle.refusal.proofs.Laws.{test-fine, test-held, then-fine, after-fine}
+use Rattle.theory.specs.Links.{Order}
+use Rattle.links.specs.Order.{orderTest}
+use Rattle.links.proofs.Order.{order-sound}
+use Rattle.rows.specs.Rooms.{Rooms, sizesFit, roomsFit, roomTests, rowAt, soundRow, rowsTest}
+use Rattle.rows.proofs.Laws.{Sound, row-sound, row-inside}
+use Rattle.rows.proofs.RoomLaws.{rooms-fine, length-row}
+use Rattle.file.specs.Bits.{bitLen, byteLen, Legal}
+use Rattle.file.specs.Layout.{headerFields, orderFields, rowFields, rowsFields, fileFields, fileOf}
+use Rattle.file.specs.Writer.{indexSizes, indexLengths, writeTests, Fit}
+use Rattle.file.specs.Pen.{RowsIn}
+use Rattle.file.proofs.Bits.{bitLen-append}
+use Rattle.file.proofs.Packed.{legal-append, packed-length}
+use Rattle.file.proofs.LayoutLaws.{header-bits, order-bits, rows-bits, order-legal, entries-legal, rows-legal}
+
+-- what 1 and 2 let through
+pub sizes-in : (n k w : ℕ) → indexSizes n k w ≡ true → (1 ≤ n) × (n ≤ 4096) × (1 ≤ w) × (w ≤ 256) × (k ≤ n)
+unfolding indexSizes sizesFit
+sizes-in n k w e =
+    let a : (sizesFit n w ≡ true) × (leb k n ≡ true) = both-true _ _ e in
+    let p : (leb 1 n && leb n 4096 && leb 1 w ≡ true) × (leb w 256 ≡ true) = both-true _ _ (a .0) in
+    let q : (leb 1 n && leb n 4096 ≡ true) × (leb 1 w ≡ true) = both-true _ _ (p .0) in
+    let r : (leb 1 n ≡ true) × (leb n 4096 ≡ true) = both-true _ _ (q .0) in
+    (leb-true 1 n (r .0), leb-true n 4096 (r .1), leb-true 1 w (q .1), leb-true w 256 (p .1), leb-true k n (a .1))
+
+pub lengths-in : (n w : ℕ) (O labels counts : List ℕ) → indexLengths n w O labels counts ≡ true →
+    (length O ≡ n) × (length labels ≡ n * w) × (length counts ≡ n)
+unfolding indexLengths roomsFit
+lengths-in n w O labels counts e =
+    let a : (eqb (length O) n ≡ true) × (roomsFit n w labels counts ≡ true) = both-true _ _ e in
+    let b : (eqb (length labels) (n * w) ≡ true) × (eqb (length counts) n ≡ true) = both-true _ _ (a .1) in
+    (eqb-true _ _ (a .0), eqb-true _ _ (b .0), eqb-true _ _ (b .1))
+
+pub rooms-in : (n k w : ℕ) (O labels counts : List ℕ) → indexSizes n k w ≡ true → indexLengths n w O labels counts ≡ true → Rooms n w labels counts
+rooms-in n k w O labels counts a b =
+    let s : (1 ≤ n) × (n ≤ 4096) × (1 ≤ w) × (w ≤ 256) × (k ≤ n) = sizes-in n k w a in
+    let l : (length O ≡ n) × (length labels ≡ n * w) × (length counts ≡ n) = lengths-in n w O labels counts b in
+    record { some-frames = s .0; frames = s .1; some-width = s .2; width = s .3; places = l .1; each = l .2 }
+
+module _ (n k w : ℕ) (O labels counts : List ℕ) where
+  -- what the tests let through
+  pub fit : writeTests n k w O labels counts ≡ Fine → Fit n k w O labels counts
+  unfolding writeTests
+  fit e =
+      let a : (test (indexSizes n k w) 1 0 ≡ Fine)
+      × ((test (indexLengths n w O labels counts) 2 0 then orderTest n O then rowsTest k n w labels counts) ≡ Fine) = then-fine _ _ e in
+      let b : (test (indexLengths n w O labels counts) 2 0 ≡ Fine) × ((orderTest n O then rowsTest k n w labels counts) ≡ Fine) =
+      then-fine _ _ (a .1) in
+      let d : (orderTest n O ≡ Fine) × (rowsTest k n w labels counts ≡ Fine) = then-fine _ _ (b .1) in
+      let s : indexSizes n k w ≡ true = test-held _ 1 0 (a .0) in
+      let l : indexLengths n w O labels counts ≡ true = test-held _ 2 0 (b .0) in
+      record {
+        rooms = rooms-in n k w O labels counts s l;
+        stop = sizes-in n k w s .4;
+        long = lengths-in n w O labels counts l .0;
+        once = d .0;
+        sound = d .1;
+      }
+
+  module _ (f : Fit n k w O labels counts) where
+    -- the tests let every such index through
+    pub fit-fine : writeTests n k w O labels counts ≡ Fine
+    unfolding writeTests indexSizes indexLengths roomTests
+    fit-fine =
+        let r : (test (sizesFit n w) 1 0 ≡ Fine) × (test (roomsFit n w labels counts) 2 0 ≡ Fine) = then-fine _ _ (rooms-fine (f .rooms)) in
+        after-fine _ (test-fine 1 0 (both _ _ (test-held _ 1 0 (r .0)) (le-leb k n (f .stop))))
+        ∙ after-fine _ (test-fine 2 0 (both _ _ (eq-eqb (length O) n (f .long)) (test-held _ 2 0 (r .1))))
+        ∙ after-fine _ (f .once) ∙ f .sound
+
+    pub fit-order : Order n O
+    fit-order = order-sound n O (f .once) (f .long)
+
+    sound-at : (v : ℕ) → v < n → soundRow k n w labels counts v ≡ true
+    unfolding rowsTest
+    sound-at v h =
+        let e : first (λ u. not (soundRow k n w labels counts u)) 0 n ≡ n = eqb-true _ _ (test-held _ _ _ (f .sound)) in
+        of-not-false _ (first-before (λ u. not (soundRow k n w labels counts u)) 0 n v (omega arith) (omega arith))
+
+    pub fit-count : (v : ℕ) → v < n → getD counts v 0 ≤ w
+    fit-count v h = row-sound k n w labels counts v (sound-at v h) .0
+
+    pub fit-row : (v : ℕ) → v < n → Sound k n (rowAt w labels counts v) (getD counts v 0)
+    fit-row v h = row-sound k n w labels counts v (sound-at v h) .1
+
+    pub fit-length : (v : ℕ) → v < n → length (rowAt w labels counts v) ≡ getD counts v 0
+    fit-length v h = length-row (f .rooms) v h (fit-count v h)
+
+    -- every row lies in the label room
+    pub fit-inside : RowsIn n w labels counts
+    fit-inside =
+        record {
+          frames = f .rooms .each;
+          inside = λ v h. subst (λ (m : ℕ). v * w + getD counts v 0 ≤ m) (sym (f .rooms .places)) (row-inside h (fit-count v h));
+        }
+
+    -- every value fits its field
+    row-legal : (v : ℕ) → v < n → Legal (rowFields w labels counts v)
+    unfolding Legal rowFields
+    row-legal v h =
+        let most : n ≤ 4096 = f .rooms .frames in
+        let c : getD counts v 0 ≤ w = fit-count v h in
+        let wide : w ≤ 256 = f .rooms .width in
+        let s : Sound k n (rowAt w labels counts v) (getD counts v 0) = fit-row v h in
+        let l : length (rowAt w labels counts v) ≡ getD counts v 0 = fit-length v h in
+        let stop : k ≤ n = f .stop in
+        (omega arith, entries-legal (rowAt w labels counts v) (λ i b. (omega (arith, s .rank i (omega arith)), omega (arith, s .joins i (omega arith)))))
+
+    pub fit-legal : Legal (fileFields n k w O labels counts)
+    unfolding fileFields Legal headerFields
+    fit-legal =
+        let most : n ≤ 4096 = f .rooms .frames in
+        let some : 1 ≤ n = f .rooms .some-frames in
+        let stop : k ≤ n = f .stop in
+        let long : length O ≡ n = f .long in (
+          omega arith,
+          (
+            omega arith,
+            (
+              omega arith,
+              (
+                omega arith,
+                legal-append (orderFields O) (rowsFields w labels counts 0 n)
+                    (order-legal O (λ r h. omega (arith, fit-order .inside r (omega arith))))
+                    (rows-legal w labels counts 0 n (λ u h. row-legal u (omega arith))),
+              ),
+            ),
+          ),
+        )
+
+    -- header 32 bits, 12 for each rank, 9 for each count, 24 for each entry
+    pub file-bits : bitLen (fileFields n k w O labels counts) ≡ 32 + 21 * n + 24 * sum counts
+    unfolding fileFields
+    file-bits =
+        let each : length counts ≡ n = f .rooms .each in
+        let long : length O ≡ n = f .long in
+        let a : bitLen (headerFields n k ++ (orderFields O ++ rowsFields w labels counts 0 n))
+        ≡ bitLen (headerFields n k) + bitLen (orderFields O ++ rowsFields w labels counts 0 n) = bitLen-append (headerFields n k) _ in
+        let b : bitLen (orderFields O ++ rowsFields w labels counts 0 n) ≡ bitLen (orderFields O) + bitLen (rowsFields w labels counts 0 n) =
+        bitLen-append (orderFields O) _ in
+        let r : bitLen (rowsFields w labels counts 0 n) ≡ 9 * n + 24 * sum counts =
+        rows-bits w labels counts 0 n (omega arith) (λ u h. fit-length u (omega arith)) in
+        omega (arith, header-bits n k, order-bits O)
+
+    -- with E entries the file has 4 + (21n + 24E) / 8 bytes, the quotient rounded up
+    pub file-bytes : length (fileOf n k w O labels counts) ≡ 4 + (21 * n + 24 * sum counts + 7) / 8
+    unfolding fileOf byteLen
+    file-bytes = packed-length (fileFields n k w O labels counts) ∙ omega (arith, file-bits)

@@ -1,0 +1,70 @@
+-- A field gathered byte by byte: what has been gathered are the last bits of the first bytes; the field is cut out of it.
+use Prim.Native.Nat.{ℕ, _+_, _-_, _*_, _/_, _%_, _^_, _≤_, _<_}
+use mathlib.Core.Path.{_≡_, sym, ap, ap₂, _∙_}
+use mathlib.Core.List.{List}
+use native.Mathlib.Omega.{arith}
+use native.Mathlib.Nat.{mod-one, mod-lt, mod-eq-of-lt, sub-self}
+use lib.ListN.{length, getD}
+use lib.Pow.{pow-pos, pow-mono, split}
+use Rattle.file.specs.Bits.{upTo, fieldAt, byteLen, Bytes}
+use Rattle.file.specs.Steps.{Inside}
+use Rattle.file.proofs.Bits.{gather-step, gathered}
+
+-- what the bytes from bit p's byte up to byte `at` give
+pub record Gathered (s : List ℕ) (p end at sum : ℕ) : Type 0 where
+  pub low : p / 8 ≤ at
+  pub high : at ≤ end
+  pub is : sum ≡ upTo s (8 * at) % 2 ^ (8 * (at - p / 8))
+
+pub gather-none : (s : List ℕ) (p end : ℕ) → p / 8 ≤ end → Gathered s p end (p / 8) 0
+gather-none s p end h =
+    record {
+      low = omega arith;
+      high = h;
+      is = sym (ap (λ (k : ℕ). upTo s (8 * (p / 8)) % 2 ^ (8 * k)) (sub-self (p / 8)) ∙ mod-one (upTo s (8 * (p / 8))));
+    }
+
+-- j bytes gathered are below 256 to the j
+pub gather-lt : {s : List ℕ} {p end at sum : ℕ} (j : ℕ) → Gathered s p end at sum → at ≤ p / 8 + j → sum < 2 ^ (8 * j)
+gather-lt {s} {p} {end} {at} {sum} j g h =
+    let m : ℕ = 8 * (at - p / 8) in
+    let a : upTo s (8 * at) % 2 ^ m < 2 ^ m = mod-lt (upTo s (8 * at)) (pow-pos m) in
+    let b : 2 ^ m ≤ 2 ^ (8 * j) = pow-mono {i = m} {j = 8 * j} (omega arith) in
+    omega (arith, g .is)
+
+pub gather-more : {s : List ℕ} {p end at sum : ℕ} → Bytes s → end ≤ length s → at < end → Gathered s p end at sum
+    → Gathered s p end (at + 1) (sum * 256 + getD s at 0)
+gather-more {s} {p} {end} {at} {sum} b l h g =
+    let m : ℕ = 8 * (at - p / 8) in
+    let e : 8 * at + 8 ≡ 8 * (at + 1) = omega arith in
+    let f : m + 8 ≡ 8 * (at + 1 - p / 8) = omega (arith, g .low) in
+    record {
+      low = omega (arith, g .low);
+      high = omega arith;
+      is =
+          ap (λ (x : ℕ). x * 256 + getD s at 0) (g .is)
+          ∙ gather-step s at m b (omega arith)
+          ∙ ap₂ (λ (j k : ℕ). upTo s j % 2 ^ k) e f;
+    }
+
+-- the highest bits of x, put back to their place, are at most x, and x without them is its last w bits
+pub cut-le : (x w : ℕ) → x < 2 ^ 64 → x / 2 ^ w * 2 ^ w % 2 ^ 64 ≤ x
+cut-le x w h =
+    let a : x / 2 ^ w * 2 ^ w + x % 2 ^ w ≡ x = split x w in
+    omega (arith, mod-eq-of-lt {n = x / 2 ^ w * 2 ^ w} {m = 2 ^ 64} (omega arith))
+
+pub cut : (x w : ℕ) → x < 2 ^ 64 → x - x / 2 ^ w * 2 ^ w % 2 ^ 64 ≡ x % 2 ^ w
+cut x w h =
+    let a : x / 2 ^ w * 2 ^ w + x % 2 ^ w ≡ x = split x w in
+    omega (arith, mod-eq-of-lt {n = x / 2 ^ w * 2 ^ w} {m = 2 ^ 64} (omega arith))
+
+pub gather-done : {s : List ℕ} {p w at sum : ℕ} → Inside s p w → Gathered s p ((p + w + 7) / 8) at sum → (p + w + 7) / 8 ≤ at
+    → sum / 2 ^ (8 * ((p + w + 7) / 8) - (p + w)) % 2 ^ w ≡ fieldAt s p w
+unfolding byteLen
+gather-done {s} {p} {w} {at} {sum} i g h =
+    let end : ℕ = (p + w + 7) / 8 in
+    let e : at ≡ end = omega (arith, g .high) in
+    let m : ℕ = 8 * (end - p / 8) in
+    let f : sum ≡ upTo s (8 * end) % 2 ^ m = g .is ∙ ap (λ (k : ℕ). upTo s (8 * k) % 2 ^ (8 * (k - p / 8))) e in
+    ap (λ (x : ℕ). x / 2 ^ (8 * end - (p + w)) % 2 ^ w) f
+    ∙ gathered s end m p w (i .there) (omega arith) (omega arith)

@@ -1,0 +1,182 @@
+-- The reader's tests as a whole: width, header, lengths, body; what a file that passes them has; and the rooms it fills.
+use Prim.Native.Nat.{ℕ, _*_, _≤_, _<_}
+use mathlib.Core.Path.{_≡_, sym, ap, ap₂, subst, _∙_}
+use mathlib.Core.Bool.{true, false}
+use mathlib.Core.List.{List}
+use native.Mathlib.Omega.{arith}
+use lib.ListN.{length}
+use borrow.Author.Tests.{le-leb, lt-leb, eq-eqb, ne-eqb, leb-true, eqb-true}
+use Rattle.basics.specs.Places.{table}
+use Rattle.basics.proofs.Laws.{both, both-true}
+use Rattle.refusal.specs.Numbers.{SIZE, LENGTH}
+use Rattle.refusal.specs.Tests.{refusal}
+use Rattle.refusal.specs.declared.Refusal.{Refusal}
+use Rattle.refusal.specs.declared.Verdict.{Verdict}
+use Rattle.refusal.proofs.Laws.{test-fine, test-refused, test-held, then-fine, after-fine, after-refused}
+use Rattle.file.specs.declared.Opened.{Opened}
+use Rattle.file.specs.Reader.{framesOf, stopOf, headerTest, frameAt, orderFrom, rowsOf, endTest, bodyTest, widthFits, lengthsFit, readTest, rowBit, countAt, labelAt, orderRead, labelsRead, countsRead, outcome, filledIn, readOf}
+use Rattle.file.specs.Stores.{filled, Ordered, Rowed}
+use Rattle.file.proofs.Fields.{row-fits}
+use Rattle.file.proofs.Heading.{Headed, headed, frames-most}
+use Rattle.file.proofs.Inversion.{rows-fine, rows-behind, bits-there}
+use Rattle.file.proofs.Stores.{filled-table}
+
+-- ---- width and lengths
+
+pub no-width : (w : ℕ) → w < 1 → widthFits w ≡ false
+unfolding widthFits
+no-width w h = rw (lt-leb 1 w h)
+
+pub too-wide : (w : ℕ) → 256 < w → widthFits w ≡ false
+unfolding widthFits
+too-wide w h = rw (le-leb 1 w (omega arith), lt-leb w 256 h)
+
+pub width-fits : (w : ℕ) → 1 ≤ w → w ≤ 256 → widthFits w ≡ true
+unfolding widthFits
+width-fits w h g = both _ _ (le-leb 1 w h) (le-leb w 256 g)
+
+module _ (n w order labels counts : ℕ) where
+  pub order-unfit : (order ≡ n → ⊥) → lengthsFit n w order labels counts ≡ false
+  unfolding lengthsFit
+  order-unfit h = rw (ne-eqb order n h)
+
+  pub labels-unfit : order ≡ n → (labels ≡ n * w → ⊥) → lengthsFit n w order labels counts ≡ false
+  unfolding lengthsFit
+  labels-unfit a h = rw (eq-eqb order n a, ne-eqb labels (n * w) h)
+
+  pub counts-unfit : order ≡ n → labels ≡ n * w → (counts ≡ n → ⊥) → lengthsFit n w order labels counts ≡ false
+  unfolding lengthsFit
+  counts-unfit a b h = rw (eq-eqb order n a, eq-eqb labels (n * w) b, ne-eqb counts n h)
+
+  pub lengths-fit : order ≡ n → labels ≡ n * w → counts ≡ n → lengthsFit n w order labels counts ≡ true
+  unfolding lengthsFit
+  lengths-fit a b c = both _ _ (both _ _ (eq-eqb order n a) (eq-eqb labels (n * w) b)) (eq-eqb counts n c)
+
+  pub fit-lengths : lengthsFit n w order labels counts ≡ true → (order ≡ n) × (labels ≡ n * w) × (counts ≡ n)
+  unfolding lengthsFit
+  fit-lengths e =
+      let (front, c) = both-true _ _ e in
+      let (a, b) = both-true _ _ front in
+      (eqb-true _ _ a, eqb-true _ _ b, eqb-true _ _ c)
+
+-- ---- the tests in their order
+
+module _ (s : List ℕ) (w order labels counts : ℕ) where
+  pub size-refused : widthFits w ≡ false → readTest s w order labels counts ≡ Verdict.Refused (refusal SIZE 0)
+  unfolding readTest
+  size-refused e = after-refused _ (test-refused SIZE 0 e)
+
+  pub header-refused : {r : Refusal} → widthFits w ≡ true → headerTest s ≡ Verdict.Refused r
+      → readTest s w order labels counts ≡ Verdict.Refused r
+  unfolding readTest
+  header-refused e h = after-fine _ (test-fine SIZE 0 e) ∙ after-refused _ h
+
+  pub length-refused : {n : ℕ} → widthFits w ≡ true → headerTest s ≡ Verdict.Fine → n ≡ framesOf s
+      → lengthsFit n w order labels counts ≡ false → readTest s w order labels counts ≡ Verdict.Refused (refusal LENGTH 0)
+  unfolding readTest
+  length-refused e h p l =
+      after-fine _ (test-fine SIZE 0 e) ∙ after-fine _ h
+      ∙ after-refused _ (test-refused LENGTH 0 (ap (λ (x : ℕ). lengthsFit x w order labels counts) (sym p) ∙ l))
+
+  pub body-left : {n k : ℕ} → widthFits w ≡ true → headerTest s ≡ Verdict.Fine → n ≡ framesOf s → k ≡ stopOf s
+      → lengthsFit n w order labels counts ≡ true → readTest s w order labels counts ≡ bodyTest s n k w
+  unfolding readTest
+  body-left e h p q l =
+      after-fine _ (test-fine SIZE 0 e) ∙ after-fine _ h
+      ∙ after-fine _ (test-fine LENGTH 0 (ap (λ (x : ℕ). lengthsFit x w order labels counts) (sym p) ∙ l))
+      ∙ ap₂ (λ (x y : ℕ). bodyTest s x y w) (sym p) (sym q)
+
+-- what a file has that passes every test
+pub record Readable (s : List ℕ) (w order labels counts : ℕ) : Type 0 where
+  pub some : 1 ≤ w
+  pub wide : w ≤ 256
+  pub head : Headed s
+  pub orders : order ≡ framesOf s
+  pub labelled : labels ≡ framesOf s * w
+  pub counted : counts ≡ framesOf s
+  pub ordered : orderFrom s (framesOf s) 0 (framesOf s) ≡ Verdict.Fine
+  pub rowed : rowsOf s (framesOf s) (stopOf s) w .verdict ≡ Verdict.Fine
+  pub ended : endTest s (rowBit s (framesOf s) (framesOf s)) ≡ Verdict.Fine
+
+pub readable : (s : List ℕ) (w order labels counts : ℕ) → readTest s w order labels counts ≡ Verdict.Fine
+    → Readable s w order labels counts
+unfolding readTest bodyTest widthFits
+readable s w order labels counts e =
+    let n : ℕ = framesOf s in
+    let (size, rest) = then-fine _ _ e in
+    let (head, rest2) = then-fine _ _ rest in
+    let (lengths, rest3) = then-fine _ _ rest2 in
+    let (ordered, rest4) = then-fine _ _ rest3 in
+    let (rowed, ended) = then-fine _ _ rest4 in
+    let (low, high) = both-true _ _ (test-held _ SIZE 0 size) in
+    let (a, b, c) = fit-lengths n w order labels counts (test-held _ LENGTH 0 lengths) in
+    record {
+      some = leb-true _ _ low;
+      wide = leb-true _ _ high;
+      head = headed s head;
+      orders = a;
+      labelled = b;
+      counted = c;
+      ordered = ordered;
+      rowed = rowed;
+      ended = ap (endTest s) (sym (rows-behind s n (stopOf s) w rowed)) ∙ ended;
+    }
+
+-- what the storing pass asks of the order and of the rows
+pub stores-order : {s : List ℕ} {w order labels counts n : ℕ} → Readable s w order labels counts → n ≡ framesOf s
+    → Ordered s n order
+unfolding rowBit
+stores-order {s} {w} {order} r p =
+    subst (λ (x : ℕ). Ordered s x order) (sym p)
+    (record {
+      most = frames-most s;
+      there = bits-there s (framesOf s) (stopOf s) w (r .rowed) (r .head .long) (r .ordered) 0 (omega arith);
+      room = r .orders;
+    })
+
+pub stores-rows : {s : List ℕ} {w order labels counts n : ℕ} → Readable s w order labels counts → n ≡ framesOf s
+    → Rowed s n w labels counts
+unfolding countAt
+stores-rows {s} {w} {order} {labels} {counts} r p =
+    subst (λ (x : ℕ). Rowed s x w labels counts) (sym p)
+    (record {
+      most = frames-most s;
+      wide = r .wide;
+      fits = λ v h.
+          row-fits s (framesOf s) (stopOf s) w v (rowBit s (framesOf s) v)
+          (rows-fine s (framesOf s) (stopOf s) w (r .rowed) v h);
+      there = bits-there s (framesOf s) (stopOf s) w (r .rowed) (r .head .long) (r .ordered);
+      room = r .labelled;
+      counted = r .counted;
+    })
+
+-- ---- the outcome
+
+module _ (s : List ℕ) (w : ℕ) (order labels counts : List ℕ) where
+  -- a refusal leaves the rooms
+  pub read-refused : {a : Opened} {r : Refusal} → a ≡ Opened.Refused r
+      → readTest s w (length order) (length labels) (length counts) ≡ Verdict.Refused r
+      → outcome a order labels counts ≡ readOf s w order labels counts
+  unfolding readOf filledIn
+  read-refused g e =
+      ap (λ (x : Opened). outcome x order labels counts) g ∙ sym (ap (λ (v : Verdict). filledIn v s w order labels counts) e)
+
+  -- the rooms filled to their ends are what the file says
+  pub read-fine : {n k : ℕ} {o l c : List ℕ} → readTest s w (length order) (length labels) (length counts) ≡ Verdict.Fine
+      → n ≡ framesOf s → k ≡ stopOf s
+      → o ≡ filled (frameAt s) order 0 n
+      → l ≡ filled (labelAt s n w) labels 0 (n * w)
+      → c ≡ filled (countAt s n) counts 0 n
+      → outcome (Opened.Index n k) o l c ≡ readOf s w order labels counts
+  unfolding readOf filledIn orderRead labelsRead countsRead
+  read-fine {n} {k} {o} {l} {c} e p q f g h =
+      let r : Readable s w (length order) (length labels) (length counts) = readable s w _ _ _ e in
+      let m : ℕ = framesOf s in
+      let f' : o ≡ table m (frameAt s) =
+      f ∙ ap (filled (frameAt s) order 0) p ∙ filled-table (frameAt s) order m (r .orders) in
+      let g' : l ≡ table (m * w) (labelAt s m w) =
+      g ∙ ap (λ (x : ℕ). filled (labelAt s x w) labels 0 (x * w)) p ∙ filled-table (labelAt s m w) labels (m * w) (r .labelled) in
+      let h' : c ≡ table m (countAt s m) =
+      h ∙ ap (λ (x : ℕ). filled (countAt s x) counts 0 x) p ∙ filled-table (countAt s m) counts m (r .counted) in
+      (λ i. outcome (Opened.Index (p i) (q i)) (f' i) (g' i) (h' i))
+      ∙ sym (ap (λ (v : Verdict). filledIn v s w order labels counts) e)

@@ -1,0 +1,203 @@
+-- The laws of a filled room: one place more, two stretches one behind the other, and a room filled to its end is a table.
+use Prim.Native.Nat.{ℕ, zero, suc, _+_, _-_, _*_, _/_, _%_, _≤_, _<_}
+use mathlib.Core.Path.{_≡_, refl, sym, ap, ap₂, subst, _∙_}
+use mathlib.Core.Bool.{cond}
+use mathlib.Core.List.{List}
+use native.Mathlib.Omega.{arith}
+use native.Mathlib.Decide.{ℕ-discrete}
+use native.Mathlib.Numerals.{add-one}
+use native.Mathlib.Nat.{add-zero, zero-add, suc-mul, mul-le-mul-right}
+use lib.ListN.{length, getD, set, length-set}
+use lib.Seq.{getD-set-same, getD-set-other}
+use lib.Arith.{digits-div, digits-mod}
+use lib.Dec.{ltb}
+use borrow.Author.Tests.{lt-ltb, le-ltb}
+use Rattle.basics.specs.Places.{table}
+use Rattle.basics.proofs.Laws.{by-cases, cond-true, cond-false, less-one, is-table}
+use Rattle.file.specs.Bits.{fieldAt, byteLen}
+use Rattle.file.specs.Reader.{entryAt, countAt, labelAt, behind, rowBit}
+use Rattle.file.specs.Stores.{filled, entryFrom, nought, cellAt, Row, Rowed}
+use Rattle.file.proofs.Inversion.{bit-near}
+
+-- ---- a filled room
+
+pub filled-length : (f : ℕ → ℕ) (l : List ℕ) (a left : ℕ) → length (filled f l a left) ≡ length l
+unfolding filled
+filled-length f l a zero = refl
+filled-length f l a (suc left) = filled-length f (set l a (f a)) (suc a) left ∙ length-set l a (f a)
+
+-- one place more
+pub filled-on : (f : ℕ → ℕ) (l : List ℕ) (a end : ℕ) {x : ℕ} {m : List ℕ} → a < end → m ≡ set l a x → x ≡ f a
+    → filled f m (a + 1) (end - (a + 1)) ≡ filled f l a (end - a)
+unfolding filled
+filled-on f l a end h g e =
+    ap (λ (y : List ℕ). filled f y (a + 1) (end - (a + 1))) g
+    ∙ ap₂ (λ (x b : ℕ). filled f (set l a x) b (end - (a + 1))) e (add-one a)
+    ∙ sym (ap (filled f l a) (less-one h))
+
+pub filled-end : (f : ℕ → ℕ) (l : List ℕ) (a end : ℕ) → end ≤ a → filled f l a (end - a) ≡ l
+unfolding filled
+filled-end f l a end h = let none : end - a ≡ 0 = omega arith in ap (filled f l a) none
+
+-- one stretch behind the other
+pub filled-add : (f : ℕ → ℕ) (l : List ℕ) (a x y : ℕ) → filled f l a (x + y) ≡ filled f (filled f l a x) (a + x) y
+unfolding filled
+filled-add f l a zero y = ap₂ (λ (b z : ℕ). filled f l b z) (sym (add-zero a)) (zero-add y)
+filled-add f l a (suc x) y =
+    let e : suc x + y ≡ suc (x + y) = omega arith in
+    let g : suc a + x ≡ a + suc x = omega arith in
+    ap (filled f l a) e ∙ filled-add f (set l a (f a)) (suc a) x y
+    ∙ ap (λ (b : ℕ). filled f (filled f (set l a (f a)) (suc a) x) b y) g
+
+pub filled-ext : (f g : ℕ → ℕ) (l : List ℕ) (a left : ℕ) → ((j : ℕ) → a ≤ j → j < a + left → f j ≡ g j)
+    → filled f l a left ≡ filled g l a left
+unfolding filled
+filled-ext f g l a zero same = refl
+filled-ext f g l a (suc left) same =
+    filled-ext f g (set l a (f a)) (suc a) left (λ j h k. same j (omega arith) (omega arith))
+    ∙ ap (λ (x : ℕ). filled g (set l a x) (suc a) left) (same a (omega arith) (omega arith))
+
+filled-before : (f : ℕ → ℕ) (l : List ℕ) (a left i : ℕ) → i < a → getD (filled f l a left) i 0 ≡ getD l i 0
+unfolding filled
+filled-before f l a zero i h = refl
+filled-before f l a (suc left) i h =
+    filled-before f (set l a (f a)) (suc a) left i (omega arith) ∙ getD-set-other l a i (f a) 0 (omega arith)
+
+filled-at : (f : ℕ → ℕ) (l : List ℕ) (a left i : ℕ) → a + left ≤ length l → a ≤ i → i < a + left
+    → getD (filled f l a left) i 0 ≡ f i
+unfolding filled
+filled-at f l a zero i h b k = absurd (omega arith)
+filled-at f l a (suc left) i h b k =
+    by-cases (ℕ-discrete i a)
+    (λ (q : i ≡ a).
+    filled-before f (set l a (f a)) (suc a) left i (omega arith)
+    ∙ ap (λ (j : ℕ). getD (set l a (f a)) j 0) q
+    ∙ getD-set-same l a (f a) 0 (omega arith)
+    ∙ ap f (sym q))
+    (λ q. filled-at f (set l a (f a)) (suc a) left i (omega (arith, length-set l a (f a))) (omega arith) (omega arith))
+
+-- a room filled to its end
+pub filled-table : (f : ℕ → ℕ) (l : List ℕ) (n : ℕ) → length l ≡ n → filled f l 0 n ≡ table n f
+filled-table f l n e =
+    is-table 0 (filled f l 0 n) n f (filled-length f l 0 n ∙ e)
+    (λ i h. filled-at f l 0 n i (omega arith) (omega arith) (omega arith))
+
+-- ---- a row
+
+-- a row's entries, then 0
+pub filled-row : (s : List ℕ) (p count w base : ℕ) (l m : List ℕ) → count ≤ w
+    → m ≡ filled (entryFrom s (p + 9) base) l base count
+    → filled nought m (base + count) (base + w - (base + count)) ≡ filled (cellAt s p count base) l base w
+unfolding entryFrom nought cellAt
+filled-row s p count w base l m h e =
+    let f : ℕ → ℕ = cellAt s p count base in
+    let rest : base + w - (base + count) ≡ w - count = omega arith in
+    let all : w ≡ count + (w - count) = omega arith in
+    ap₂ (λ (x : List ℕ) (y : ℕ). filled nought x (base + count) y)
+    (e
+    ∙ filled-ext (entryFrom s (p + 9) base) f l base count
+    (λ j g k. sym (cond-true _ _ (lt-ltb (j - base) count (omega arith)))))
+    rest
+    ∙ filled-ext nought f (filled f l base count) (base + count) (w - count)
+    (λ j g k. sym (cond-false _ _ (le-ltb (j - base) count (omega arith))))
+    ∙ sym (ap (filled f l base) all ∙ filled-add f l base count (w - count))
+
+-- in row v the label room's places are that row's
+pub cell-label : (s : List ℕ) (n w v j : ℕ) → v * w ≤ j → j < v * w + w
+    → cellAt s (rowBit s n v) (countAt s n v) (v * w) j ≡ labelAt s n w j
+unfolding cellAt labelAt
+cell-label s n w v j h k =
+    let i : ℕ = j - v * w in
+    let e : v * w + i ≡ j = omega arith in
+    let d : j / w ≡ v = ap (λ (x : ℕ). x / w) (sym e) ∙ digits-div v (omega arith) in
+    let r : j % w ≡ i = ap (λ (x : ℕ). x % w) (sym e) ∙ digits-mod v (omega arith) in
+    sym
+    (ap₂ (λ (u x : ℕ). cond (ltb x (countAt s n u)) (entryAt s (rowBit s n u + 9 + 24 * x)) 0) d r)
+
+-- ---- all rows
+
+-- what the rows' loop keeps: row v comes next, and filling what is left gives the whole
+pub record Stored (s : List ℕ) (n w : ℕ) (labels₀ counts₀ : List ℕ) (p base v : ℕ) (labels counts : List ℕ) : Type 0 where
+  pub upto : v ≤ n
+  pub bit : p ≡ rowBit s n v
+  pub place : base ≡ v * w
+  pub labelled : length labels ≡ n * w
+  pub counted : length counts ≡ n
+  pub labels-left : filled (labelAt s n w) labels base (n * w - base) ≡ filled (labelAt s n w) labels₀ 0 (n * w)
+  pub counts-left : filled (countAt s n) counts v (n - v) ≡ filled (countAt s n) counts₀ 0 n
+
+pub stored-none : (s : List ℕ) (n w : ℕ) (labels counts : List ℕ) → length labels ≡ n * w → length counts ≡ n
+    → Stored s n w labels counts (32 + 12 * n) 0 0 labels counts
+unfolding rowBit
+stored-none s n w labels counts e g =
+    let a : n * w - 0 ≡ n * w = omega arith in
+    let b : n - 0 ≡ n = omega arith in
+    record {
+      upto = omega arith;
+      bit = refl;
+      place = omega arith;
+      labelled = e;
+      counted = g;
+      labels-left = ap (filled (labelAt s n w) labels 0) a;
+      counts-left = ap (filled (countAt s n) counts 0) b;
+    }
+
+module _ {s : List ℕ} {n w : ℕ} {labels₀ counts₀ : List ℕ} {p base v : ℕ} {labels counts : List ℕ}
+    (asked : Rowed s n w (length labels₀) (length counts₀)) (k : Stored s n w labels₀ counts₀ p base v labels counts) (h : v < n) where
+  -- the row has its place
+  pub stored-room : base + w ≤ n * w
+  stored-room = omega (arith, suc-mul v w, mul-le-mul-right {m = suc v} {n = n} w (omega arith), k .place)
+
+  -- its bytes are there, and its count fits
+  pub stored-row : {count : ℕ} → count ≡ fieldAt s p 9 → Row s p count w (length labels) base
+  unfolding rowBit behind countAt
+  stored-row {count} e =
+      let c : count ≡ countAt s n v = e ∙ ap (λ (x : ℕ). fieldAt s x 9) (k .bit) in
+      record {
+        near = omega (arith, bit-near s n v, k .bit, asked .most);
+        wide = asked .wide;
+        fits = omega (arith, asked .fits v h);
+        there =
+            subst (λ (x : ℕ). byteLen x ≤ length s) (ap₂ (λ (x y : ℕ). x + 9 + 24 * y) (sym (k .bit)) (sym c))
+            (asked .there (suc v) (omega arith));
+        room = omega (arith, stored-room, k .labelled);
+      }
+
+  -- and behind it the next row
+  pub stored-on : {count : ℕ} (m : List ℕ) → count ≡ fieldAt s p 9 → m ≡ filled (cellAt s p count base) labels base w
+      → Stored s n w labels₀ counts₀ (p + 9 + 24 * count) (base + w) (v + 1) m (set counts v count)
+  unfolding rowBit behind countAt
+  stored-on {count} m e g =
+      let f : ℕ → ℕ = labelAt s n w in
+      let c : count ≡ countAt s n v = e ∙ ap (λ (x : ℕ). fieldAt s x 9) (k .bit) in
+      let next : rowBit s n (suc v) ≡ rowBit s n (v + 1) = ap (rowBit s n) (sym (add-one v)) in
+      let row : m ≡ filled f labels base w =
+      g
+      ∙ filled-ext (cellAt s p count base) f labels base w
+      (λ j a b.
+      ap (λ (x : ℕ). cellAt s x count base j) (k .bit)
+      ∙ ap₂ (λ (x y : ℕ). cellAt s (rowBit s n v) x y j) c (k .place)
+      ∙ cell-label s n w v j (omega (arith, k .place)) (omega (arith, k .place))) in
+      let all : n * w - base ≡ w + (n * w - (base + w)) = omega (arith, stored-room) in
+      record {
+        upto = omega arith;
+        bit = ap₂ (λ (x y : ℕ). x + 9 + 24 * y) (k .bit) c ∙ next;
+        place = omega (arith, suc-mul v w, ap (λ (x : ℕ). x * w) (add-one v), k .place);
+        labelled = ap length row ∙ filled-length f labels base w ∙ k .labelled;
+        counted = length-set counts v count ∙ k .counted;
+        labels-left =
+            ap (λ (x : List ℕ). filled f x (base + w) (n * w - (base + w))) row
+            ∙ sym (ap (filled f labels base) all ∙ filled-add f labels base w (n * w - (base + w)))
+            ∙ k .labels-left;
+        counts-left = filled-on (countAt s n) counts v n h refl c ∙ k .counts-left;
+      }
+
+pub stored-end : {s : List ℕ} {n w : ℕ} {labels₀ counts₀ : List ℕ} {p base v : ℕ} {labels counts : List ℕ}
+    → Stored s n w labels₀ counts₀ p base v labels counts → n ≤ v
+    → (labels ≡ filled (labelAt s n w) labels₀ 0 (n * w)) × (counts ≡ filled (countAt s n) counts₀ 0 n)
+stored-end {s} {n} {w} {labels₀} {counts₀} {p} {base} {v} {labels} {counts} k h =
+    let e : v ≡ n = omega (arith, k .upto) in
+    let b : base ≡ n * w = k .place ∙ ap (λ (x : ℕ). x * w) e in (
+      sym (filled-end (labelAt s n w) labels base (n * w) (omega arith)) ∙ k .labels-left,
+      sym (filled-end (countAt s n) counts v n h) ∙ k .counts-left,
+    )

@@ -1,0 +1,216 @@
+-- A file that was written is read back: every test of the reader is fine, and the rooms then hold the same index, at any
+-- width from the largest count up and whatever they held before.
+use Prim.Native.Nat.{ℕ, zero, suc, _+_, _*_, _≤_, _<_}
+use mathlib.Core.Path.{_≡_, refl, sym, ap, ap₂, subst, _∙_}
+use mathlib.Core.Bool.{false, cond}
+use mathlib.Core.List.{List}
+use native.Mathlib.Omega.{arith}
+use native.Mathlib.Nat.{le-of-eq, lt-of-lt-of-le}
+use borrow.Author.Tests.{le-leb, lt-ltb, eq-eqb, ne-eqb}
+use lib.ListN.{length, getD, take, drop}
+use lib.Arith.{digits-div, digits-mod}
+use lib.Dec.{ltb, eqb}
+use lib.Seq.{ext-getD}
+use Rattle.basics.specs.Places.{table}
+use Rattle.basics.proofs.Laws.{both, some-none, is-table, getD-table, length-table, cond-true}
+use Rattle.refusal.specs.Numbers.{SIZE, LENGTH, VERSION}
+use Rattle.refusal.specs.Tests.{test, _then_}
+use Rattle.refusal.specs.declared.Verdict.{Verdict}
+use Rattle.refusal.proofs.Laws.{test-fine, after-fine}
+use Rattle.links.specs.Order.{stands}
+use Rattle.rows.specs.Entry.{rankOf, entryOf}
+use Rattle.rows.specs.Rooms.{part, rowAt}
+use Rattle.rows.proofs.Laws.{Sound, entry-of-parts, getD-part, length-part, row-inside}
+use Rattle.file.specs.Bits.{fieldAt, bitLen, byteLen}
+use Rattle.file.specs.Layout.{fileFields, fileOf, stored, Same}
+use Rattle.file.specs.Reader.{shortTest, headerTest, framesOf, stopOf, frameAt, orderFrom, entriesFrom, rowTest, behind, whole, goOn, rowsFrom, rowsOf, bodyTest, widthFits, lengthsFit, readTest, rowBit, countAt, entryAt, labelAt, orderRead, labelsRead, countsRead, Outcome, outcome, filledIn, readOf}
+use Rattle.file.specs.Writer.{wrote, writeOf}
+use Rattle.file.specs.declared.Opened.{Opened}
+use Rattle.file.specs.declared.Whole.{Whole}
+use Rattle.file.specs.declared.Written.{Written}
+use Rattle.file.proofs.Fields.{order-legal, entry-legal, row-entries, end-fine, body-end}
+use Rattle.file.proofs.Fit.{fit-order, fit-count, fit-row, fit-length}
+use Rattle.file.proofs.ReadBack.{Holds, file-holds, version-found, frames-found, stop-found, spare-found, frame-found, count-field, count-found, entry-found, row-end, last-end, order-fits}
+use Rattle.file.proofs.Steps.{short-fine, field-fine}
+use Rattle.file.proofs.Writing.{Done, write-done, done-file}
+
+more-bytes : (a b : ℕ) → a ≤ b → byteLen a ≤ byteLen b
+unfolding byteLen
+more-bytes a b h = omega arith
+
+module _ {s : List ℕ} {n k w : ℕ} {O labels counts : List ℕ} (h : Holds s n k w O labels counts) where
+  -- ---- the tests of the file's fields
+
+  -- a field inside the layout is there
+  there : (p m : ℕ) → p + m ≤ bitLen (fileFields n k w O labels counts) → shortTest s p m ≡ Verdict.Fine
+  there p m b = short-fine s p m (subst (λ (l : ℕ). byteLen (p + m) ≤ l) (sym (h .long)) (more-bytes (p + m) _ b))
+
+  pub header-fine : headerTest s ≡ Verdict.Fine
+  unfolding headerTest
+  header-fine =
+      let far : 32 + 12 * n ≤ bitLen (fileFields n k w O labels counts) = order-fits h in
+      let stop : stopOf s ≤ framesOf s = omega (arith, stop-found h, frames-found h, h .fits .stop) in
+      after-fine _ (there 0 4 (omega arith))
+      ∙ after-fine _ (test-fine VERSION 0 (eq-eqb _ _ (version-found h)))
+      ∙ after-fine _ (there 4 12 (omega arith))
+      ∙ after-fine _ (field-fine s 16 13 (there 16 13 (omega arith)) (le-leb _ _ stop))
+      ∙ field-fine s 29 3 (there 29 3 (omega arith)) (eq-eqb _ _ (spare-found h))
+
+  -- no frame stands twice
+  new : (r : ℕ) → r < n → stands (frameAt s) r (frameAt s r) ≡ false
+  unfolding stands
+  new r b =
+      some-none (λ j. eqb (frameAt s j) (frameAt s r)) 0 r
+      (λ j _ l. ne-eqb _ _ (λ e.
+      fit-order n k w O labels counts (h .fits) .once j r (omega arith) b
+      (sym (frame-found h j (omega arith)) ∙ e ∙ frame-found h r b)))
+
+  order-fine : (r left : ℕ) → r + left ≡ n → orderFrom s n r left ≡ Verdict.Fine
+  unfolding orderFrom
+  order-fine r zero e = refl
+  order-fine r (suc left) e =
+      let b : r < n = omega arith in
+      let inside : frameAt s r < n = subst (λ (v : ℕ). v < n) (sym (frame-found h r b)) (fit-order n k w O labels counts (h .fits) .inside r b) in
+      after-fine _ (order-legal s n r (there (32 + 12 * r) 12 (omega (arith, order-fits h))) inside (new r b)) ∙ order-fine (suc r) left (omega arith)
+
+  -- the entries of row v from place i on
+  entries-fine : (v : ℕ) → v < n → (i low left : ℕ) → i + left ≡ getD counts v 0 →
+      (0 < left → low ≤ rankOf (getD (rowAt w labels counts v) i 0)) → entriesFrom s n k (rowBit s n v + 9 + 24 * i) low left ≡ Verdict.Fine
+  unfolding entriesFrom
+  entries-fine v b i low zero e l = refl
+  entries-fine v b i low (suc left) e l =
+      let p : ℕ = rowBit s n v + 9 + 24 * i in
+      let row : List ℕ = rowAt w labels counts v in
+      let sound : Sound k n row (getD counts v 0) = fit-row n k w O labels counts (h .fits) v b in
+      let c : i < getD counts v 0 = omega arith in
+      let (rank, joins) = entry-found h v b i c in
+      let end : rowBit s n v + 9 + 24 * getD counts v 0 ≤ bitLen (fileFields n k w O labels counts) = row-end h v b in
+      let low-fine : low ≤ fieldAt s p 12 = subst (λ (y : ℕ). low ≤ y) (sym rank) (l (omega arith)) in
+      let rank-fine : fieldAt s p 12 < k = subst (λ (y : ℕ). y < k) (sym rank) (sound .rank i c) in
+      let joins-fine : fieldAt s (p + 12) 12 < n = subst (λ (y : ℕ). y < n) (sym joins) (sound .joins i c) in
+      let next : p + 24 ≡ rowBit s n v + 9 + 24 * (i + 1) = omega arith in
+      after-fine _ (entry-legal s n k p low (there p 12 (omega arith)) low-fine rank-fine (there (p + 12) 12 (omega arith)) joins-fine)
+      ∙ ap (λ (q : ℕ). entriesFrom s n k q (fieldAt s p 12 + 1) left) next
+      ∙ entries-fine v b (i + 1) (fieldAt s p 12 + 1) left (omega arith) (λ m. omega (arith, sound .rising i (omega arith)))
+
+  -- ---- and of the rows, for a width that takes every count
+  module _ (x : ℕ) (wide : (v : ℕ) → v < n → getD counts v 0 ≤ x) where
+    row-fine : (v : ℕ) → v < n → rowTest s n k x v (rowBit s n v) ≡ Verdict.Fine
+    row-fine v b =
+        let c : getD counts v 0 ≤ w = fit-count n k w O labels counts (h .fits) v b in
+        let most : w ≤ 256 = h .fits .rooms .width in
+        let e : getD counts v 0 ≡ fieldAt s (rowBit s n v) 9 = sym (count-field h v b) in
+        let z : rowBit s n v + 9 + 24 * 0 ≡ rowBit s n v + 9 = omega arith in
+        row-entries s n k x v (rowBit s n v) (there (rowBit s n v) 9 (omega (arith, row-end h v b))) e (omega arith) (wide v b)
+        ∙ ap (λ (q : ℕ). entriesFrom s n k q 0 (getD counts v 0)) (sym z)
+        ∙ entries-fine v b 0 0 (getD counts v 0) (omega arith) (λ m. omega arith)
+
+    rows-fine : (v left : ℕ) → v + left ≡ n → rowsFrom s n k x v (rowBit s n v) left ≡ whole n (rowBit s n n) Verdict.Fine
+    unfolding rowsFrom goOn rowBit
+    rows-fine v zero e =
+        let all : v ≡ n = omega arith in
+        ap (λ (u : ℕ). whole u (rowBit s n u) Verdict.Fine) all
+    rows-fine v (suc left) e =
+        ap (λ (t : Verdict). goOn t v (rowBit s n v) (rowsFrom s n k x (suc v) (behind s (rowBit s n v)) left)) (row-fine v (omega arith))
+        ∙ rows-fine (suc v) left (omega arith)
+
+    body-fine : bodyTest s n k x ≡ Verdict.Fine
+    unfolding rowsOf rowBit
+    body-fine =
+        let rows : rowsOf s n k x ≡ whole n (rowBit s n n) Verdict.Fine = rows-fine 0 n (omega arith) in
+        body-end s n k x (bitLen (fileFields n k w O labels counts)) (order-fine 0 n (omega arith)) (ap (λ (y : Whole). y .verdict) rows)
+        (sym (last-end h) ∙ sym (ap (λ (y : Whole). y .bit) rows))
+        ∙ end-fine s (bitLen (fileFields n k w O labels counts)) (h .fill) (le-of-eq (h .long))
+
+    pub read-fine : 1 ≤ x → x ≤ 256 → readTest s x n (n * x) n ≡ Verdict.Fine
+    unfolding readTest widthFits lengthsFit
+    read-fine a b =
+        let frames : framesOf s ≡ n = frames-found h in
+        let places : n * x ≡ framesOf s * x = ap (λ (m : ℕ). m * x) (sym frames) in
+        after-fine _ (test-fine SIZE 0 (both _ _ (le-leb 1 x a) (le-leb x 256 b)))
+        ∙ after-fine _ header-fine
+        ∙ after-fine _ (test-fine LENGTH 0 (both _ _ (both _ _ (eq-eqb _ _ (sym frames)) (eq-eqb _ _ places)) (eq-eqb _ _ (sym frames))))
+        ∙ ap₂ (λ (m j : ℕ). bodyTest s m j x) frames (stop-found h)
+        ∙ body-fine
+
+    -- ---- what the rooms then hold
+
+    pub order-same : orderRead s n ≡ O
+    unfolding orderRead
+    order-same = sym (is-table 0 O n (frameAt s) (h .fits .long) (λ r b. sym (frame-found h r b)))
+
+    pub counts-same : countsRead s n ≡ counts
+    unfolding countsRead
+    counts-same = sym (is-table 0 counts n (countAt s n) (h .fits .rooms .each) (λ v b. sym (count-found h v b)))
+
+    -- entry i of row v
+    label-same : (v : ℕ) → v < n → (i : ℕ) → i < getD counts v 0 → labelAt s n x (v * x + i) ≡ getD (rowAt w labels counts v) i 0
+    unfolding labelAt entryAt rankOf
+    label-same v b i c =
+        let e : ℕ = getD (rowAt w labels counts v) i 0 in
+        let inside : i < x = lt-of-lt-of-le c (wide v b) in
+        let sound : Sound k n (rowAt w labels counts v) (getD counts v 0) = fit-row n k w O labels counts (h .fits) v b in
+        let small : rankOf e < k = sound .rank i c in
+        let stop : k ≤ n = h .fits .stop in
+        let most : n ≤ 4096 = h .fits .rooms .frames in
+        let (rank, joins) = entry-found h v b i c in
+        ap₂ (λ (m u : ℕ). cond (ltb m (countAt s n u)) (entryAt s (rowBit s n u + 9 + 24 * m)) 0) (digits-mod v inside) (digits-div v inside)
+        ∙ cond-true _ 0 (lt-ltb i (countAt s n v) (subst (λ (m : ℕ). i < m) (sym (count-found h v b)) c))
+        ∙ ap₂ entryOf rank joins ∙ entry-of-parts e (omega arith)
+
+    pub entries-same : (v : ℕ) → v < n → rowAt w labels counts v ≡ rowAt x (labelsRead s n x) counts v
+    unfolding rowAt labelsRead
+    entries-same v b =
+        let count : ℕ = getD counts v 0 in
+        let L : List ℕ = table (n * x) (labelAt s n x) in
+        let long : length (part x L v count) ≡ count = length-part x L v count b (wide v b) (length-table (n * x) (labelAt s n x)) in
+        let old : length (rowAt w labels counts v) ≡ count = fit-length n k w O labels counts (h .fits) v b in
+        ext-getD 0 (rowAt w labels counts v) (part x L v count) (old ∙ sym long)
+        (λ i c.
+        let c1 : i < count = omega arith in
+        let place : v * x + i < n * x = omega (arith, row-inside {v = v} {n = n} {c = count} {w = x} b (wide v b)) in
+        sym (getD-part x L v count i c1 ∙ getD-table (n * x) (labelAt s n x) (v * x + i) 0 place ∙ label-same v b i c1))
+
+    pub read-back : 1 ≤ x → x ≤ 256 → (order₁ labels₁ counts₁ : List ℕ) → length order₁ ≡ n → length labels₁ ≡ n * x → length counts₁ ≡ n →
+        readOf s x order₁ labels₁ counts₁ ≡ outcome (Opened.Index n k) O (labelsRead s n x) counts
+    unfolding readOf filledIn
+    read-back a b order₁ labels₁ counts₁ p q r =
+        let fine : readTest s x (length order₁) (length labels₁) (length counts₁) ≡ Verdict.Fine =
+        rw (p, q, r) (read-fine a b) in
+        ap (λ (t : Verdict). filledIn t s x order₁ labels₁ counts₁) fine
+        ∙ ap₂ (λ (m j : ℕ). outcome (Opened.Index m j) (orderRead s m) (labelsRead s m x) (countsRead s m)) (frames-found h) (stop-found h)
+        ∙ ap₂ (λ (o c : List ℕ). outcome (Opened.Index n k) o (labelsRead s n x) c) order-same counts-same
+
+    pub same : Same (stored n k w O labels counts) (stored n k x O (labelsRead s n x) counts)
+    same = record { frames = refl; stop = refl; order = refl; counts = refl; entries = entries-same }
+
+-- ---- the round trip: what the writer filled, handed to the reader
+
+-- the reader's outcome over the stretch that the writer filled, whatever the rooms held before
+module _ (n k w : ℕ) (O labels counts out : List ℕ) (start bytes : ℕ) (room : List ℕ)
+    (written : wrote (Written.Bytes bytes) room ≡ writeOf n k w O labels counts out start) where
+  -- with any width from the largest count up
+  pub write-read : (x : ℕ) → 1 ≤ x → x ≤ 256 → ((v : ℕ) → v < n → getD counts v 0 ≤ x) →
+      (order₁ labels₁ counts₁ : List ℕ) → length order₁ ≡ n → length labels₁ ≡ n * x → length counts₁ ≡ n →
+      (order₂ labels₂ counts₂ : List ℕ) (answer : Opened) →
+      outcome answer order₂ labels₂ counts₂ ≡ readOf (take bytes (drop start room)) x order₁ labels₁ counts₁ →
+      (answer ≡ Opened.Index n k) × Same (stored n k w O labels counts) (stored n k x order₂ labels₂ counts₂)
+  write-read x low high wide order₁ labels₁ counts₁ p q r order₂ labels₂ counts₂ answer e =
+      let d : Done n k w O labels counts out start bytes room = write-done n k w O labels counts out start bytes room written in
+      let s : List ℕ = fileOf n k w O labels counts in
+      let h : Holds s n k w O labels counts = file-holds n k w O labels counts (d .fits) in
+      let all : outcome answer order₂ labels₂ counts₂ ≡ outcome (Opened.Index n k) O (labelsRead s n x) counts =
+      e ∙ ap (λ (l : List ℕ). readOf l x order₁ labels₁ counts₁) (done-file n k w O labels counts out start bytes room d)
+      ∙ read-back h x wide low high order₁ labels₁ counts₁ p q r in (
+        ap (λ (t : Outcome). t .answer) all,
+        subst (λ (t : Outcome). Same (stored n k w O labels counts) (stored n k x (t .order) (t .labels) (t .counts))) (sym all) (same h x wide),
+      )
+
+  -- with the width it was written with
+  pub write-read-here : (order₁ labels₁ counts₁ : List ℕ) → length order₁ ≡ n → length labels₁ ≡ n * w → length counts₁ ≡ n →
+      (order₂ labels₂ counts₂ : List ℕ) (answer : Opened) →
+      outcome answer order₂ labels₂ counts₂ ≡ readOf (take bytes (drop start room)) w order₁ labels₁ counts₁ →
+      (answer ≡ Opened.Index n k) × Same (stored n k w O labels counts) (stored n k w order₂ labels₂ counts₂)
+  write-read-here =
+      let d : Done n k w O labels counts out start bytes room = write-done n k w O labels counts out start bytes room written in
+      write-read w (d .fits .rooms .some-width) (d .fits .rooms .width) (fit-count n k w O labels counts (d .fits))

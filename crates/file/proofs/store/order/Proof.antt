@@ -1,0 +1,93 @@
+-- The loop of `order`: filling the places from rank r on gives what filling all of them gives. The ranks left fall.
+use Prim.Native.Nat.{_+_, _-_, _*_, _≤_}
+use mathlib.Core.Path.{_≡_, refl, sym, ap, _∙_}
+use native.Mathlib.Omega.{arith}
+use lib.ListN.{length, length-set}
+use native.Mathlib.Nat.{sub-zero}
+use Rattle.file.specs.Bits.{byteLen}
+use Rattle.file.specs.Reader.{frameAt}
+use Rattle.file.specs.Stores.{filled}
+use Rattle.file.proofs.Stores.{filled-on, filled-end}
+use Rattle.file.proofs.Bits.{field-lt}
+use Rattle.file.proofs.store.order.Statement.{statement}
+use Rattle.file.proofs.store.order.Tie as tie
+
+abbrev Inv-loop : tie.InvT-loop
+Inv-loop bytes n order₀ r₀ order r = (length order ≡ length order₀) × (r ≤ n) × (filled (frameAt bytes) order r (n - r) ≡
+    filled (frameAt bytes) order₀ 0 n)
+
+abbrev μ-loop : tie.MeasureT-loop
+μ-loop bytes n order₀ r₀ order r = n - r
+
+loop-holds : tie.Need-loop-holds Inv-loop μ-loop
+loop-holds c = (refl, omega arith, ap (filled (frameAt _) _ 0) (sub-zero (c .before .before .args .n)))
+
+mul-p : tie.Need-mul-p Inv-loop μ-loop
+mul-p c = omega arith
+
+add-p : tie.Need-add-p Inv-loop μ-loop
+add-p c = omega arith
+
+get-requires : tie.Need-get-requires Inv-loop μ-loop
+unfolding byteLen
+get-requires c κs =
+    record {
+      narrow = omega arith;
+      near = omega arith;
+      there = omega (arith, c .before .before .before .before .pre .there);
+    }
+
+cast-order : tie.Need-cast-order Inv-loop μ-loop
+cast-order c =
+    omega (
+      arith,
+      c .get .ensures,
+      field-lt (c .before .before .before .before .before .args .bytes .now) (32 + 12 *
+          c .before .before .loop .r) 12,
+    )
+
+mul-order : tie.Need-mul-order Inv-loop μ-loop
+mul-order c = omega arith
+
+slice-write-order : tie.Need-slice-write-order Inv-loop μ-loop
+slice-write-order c = omega arith
+
+add-r : tie.Need-add-r Inv-loop μ-loop
+add-r c = omega arith
+
+loop-less : tie.Need-loop-less Inv-loop μ-loop
+loop-less c = omega arith
+
+loop-again : tie.Need-loop-again Inv-loop μ-loop
+unfolding frameAt
+loop-again c = (
+  length-set (c .before .before .loop .order) (c .before .before .loop .r) (c .get .result) ∙
+      c .before .before .loop .inv .0,
+  omega arith,
+  filled-on (frameAt _) _ _ _ (c .before .loop-test .taken) refl (c .get .ensures) ∙ c .before .before .loop .inv .2,
+)
+
+same-length : tie.Need-same-length Inv-loop μ-loop
+same-length c = c .before .loop .inv .0
+
+returns : tie.Need-returns Inv-loop μ-loop
+returns c = sym (filled-end (frameAt _) _ _ _ (omega arith)) ∙ c .before .loop .inv .2
+
+pub order-spec : {M : Type 1} → statement M
+order-spec =
+    tie.close
+    (tie.spec
+    Inv-loop
+    μ-loop
+    loop-holds
+    mul-p
+    add-p
+    get-requires
+    cast-order
+    mul-order
+    slice-write-order
+    add-r
+    loop-less
+    loop-again
+    same-length
+    returns)

@@ -1,0 +1,133 @@
+-- The loop of `rows`: filling the rows and counts from frame v on gives what filling all of them gives (`Stored`). A row
+-- stored keeps that for the next frame; the frames left fall.
+use Prim.Native.Nat.{_-_}
+use mathlib.Core.Path.{refl, sym, _∙_}
+use native.Mathlib.Omega.{arith}
+use lib.ListN.{length}
+use Rattle.file.specs.Bits.{byteLen}
+use Rattle.file.specs.Stores.{Row}
+use Rattle.file.proofs.Stores.{Stored, stored-none, stored-room, stored-row, stored-on, stored-end}
+use Rattle.file.proofs.Bits.{field-lt}
+use Rattle.file.proofs.store.rows.Statement.{statement}
+use Rattle.file.proofs.store.rows.Tie as tie
+
+abbrev Inv-loop : tie.InvT-loop
+Inv-loop bytes n w labels₀ counts₀ p₀ base₀ v₀ labels counts p base v = Stored bytes n w labels₀ counts₀ p base v labels
+    counts
+
+abbrev μ-loop : tie.MeasureT-loop
+μ-loop bytes n w labels₀ counts₀ p₀ base₀ v₀ labels counts p base v = n - v
+
+mul-p : tie.Need-mul-p Inv-loop μ-loop
+mul-p c = omega arith
+
+add-p : tie.Need-add-p Inv-loop μ-loop
+add-p c = omega arith
+
+loop-holds : tie.Need-loop-holds Inv-loop μ-loop
+loop-holds c = stored-none _ _ _ _ _ (c .before .before .before .pre .room) (c .before .before .before .pre .counted)
+
+get-requires : tie.Need-get-requires Inv-loop μ-loop
+unfolding byteLen
+get-requires c κs =
+    let row = stored-row (c .before .before .before .before .before .pre) (c .before .loop .inv) (c .loop-test .taken) refl
+    in
+    record { narrow = omega arith; near = omega (arith, row .near); there = omega (arith, row .there) }
+
+cast-counts : tie.Need-cast-counts Inv-loop μ-loop
+cast-counts c =
+    omega (
+      arith,
+      c .get .ensures,
+      field-lt (c .before .before .before .before .before .before .args .bytes .now)
+          (c .before .before .loop .p) 9,
+    )
+
+mul-counts : tie.Need-mul-counts Inv-loop μ-loop
+mul-counts c = omega arith
+
+slice-write-counts : tie.Need-slice-write-counts Inv-loop μ-loop
+slice-write-counts c = omega arith
+
+row-requires : tie.Need-row-requires Inv-loop μ-loop
+row-requires c κs =
+    stored-row (c .before .before .before .before .before .before .before .pre) (c .before .before .before .loop .inv)
+    (c .before .before .loop-test .taken) (c .before .get .ensures)
+
+-- the row just stored
+stored : (c : tie.After-slice-known3 Inv-loop μ-loop)
+    → Row (c .before .before .before .before .before .before .before .before .before .before .args .bytes .now)
+    (c .before .before .before .before .before .before .loop .p) (c .before .before .before .before .get .result)
+    (c .before .before .before .before .before .before .before .before .before .before .args .w) (length
+    (c .before .before .before .before .before .before .loop .labels))
+    (c .before .before .before .before .before .before .loop .base)
+stored c =
+    stored-row (c .before .before .before .before .before .before .before .before .before .before .pre)
+    (c .before .before .before .before .before .before .loop .inv)
+    (c .before .before .before .before .before .loop-test .taken) (c .before .before .before .before .get .ensures)
+
+add-p-2 : tie.Need-add-p-2 Inv-loop μ-loop
+add-p-2 c = omega (arith, stored c .near)
+
+mul-p-2 : tie.Need-mul-p-2 Inv-loop μ-loop
+mul-p-2 c = omega (arith, stored c .fits, stored c .wide)
+
+add-p-3 : tie.Need-add-p-3 Inv-loop μ-loop
+add-p-3 c = omega (arith, stored c .near, stored c .fits, stored c .wide)
+
+add-base : tie.Need-add-base Inv-loop μ-loop
+add-base c =
+    omega (
+      arith,
+      stored-room (c .before .before .before .before .before .before .before .before .before .before .pre)
+          (c .before .before .before .before .before .before .loop .inv)
+          (c .before .before .before .before .before .loop-test .taken),
+      c .before .before .before .before .before .before .before .before .before .before .pre .room,
+    )
+
+add-v : tie.Need-add-v Inv-loop μ-loop
+add-v c = omega arith
+
+loop-less : tie.Need-loop-less Inv-loop μ-loop
+loop-less c = omega arith
+
+loop-again : tie.Need-loop-again Inv-loop μ-loop
+loop-again c =
+    stored-on (c .before .before .before .before .before .before .before .before .before .before .pre)
+    (c .before .before .before .before .before .before .loop .inv)
+    (c .before .before .before .before .before .loop-test .taken) _ (c .before .before .before .before .get .ensures)
+    (c .before .before .row .ensures)
+
+same-length : tie.Need-same-length Inv-loop μ-loop
+same-length c = c .before .loop .inv .labelled ∙ sym (c .before .before .before .before .before .pre .room)
+
+same-length-2 : tie.Need-same-length-2 Inv-loop μ-loop
+same-length-2 c = c .before .loop .inv .counted ∙ sym (c .before .before .before .before .before .pre .counted)
+
+returns : tie.Need-returns Inv-loop μ-loop
+returns c = stored-end (c .before .loop .inv) (omega arith)
+
+pub rows-spec : {M : Type 1} → statement M
+rows-spec =
+    tie.close
+    (tie.spec
+    Inv-loop
+    μ-loop
+    mul-p
+    add-p
+    loop-holds
+    get-requires
+    cast-counts
+    mul-counts
+    slice-write-counts
+    row-requires
+    add-p-2
+    mul-p-2
+    add-p-3
+    add-base
+    add-v
+    loop-less
+    loop-again
+    same-length
+    same-length-2
+    returns)

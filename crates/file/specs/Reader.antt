@@ -1,0 +1,222 @@
+-- The reader of the index file, in the paper's words: the tests in their order, each field at its first bit, and what the
+-- rooms hold afterwards. `s` is the byte string, n the frames and k the stop that its header gives, w the width of the call.
+use Prim.Native.Nat.{ℕ, zero, suc, _+_, _*_, _/_, _%_}
+use mathlib.Core.Bool.{Bool, true, false, cond, not, _&&_}
+use mathlib.Core.List.{List}
+use lib.ListN.{length}
+use lib.Dec.{leb, ltb, eqb}
+use Rattle.basics.specs.Places.{table}
+use Rattle.refusal.specs.Numbers.{SIZE, LENGTH, ROOM, SHORT, VERSION, FIELD, LONG}
+use Rattle.refusal.specs.Tests.{test, _then_}
+use Rattle.refusal.specs.declared.Verdict.{Verdict}
+use Rattle.links.specs.Order.{faultyRank}
+use Rattle.rows.specs.Entry.{entryOf}
+use Rattle.file.specs.declared.Opened.{Opened}
+use Rattle.file.specs.declared.Whole.{Whole}
+use Rattle.file.specs.Bits.{fieldAt, byteLen, padLen}
+
+-- ---- one field
+
+-- 10: bytes end inside a field; its first bit
+unfoldable pub shortTest : List ℕ → ℕ → ℕ → Verdict
+shortTest s p width = test (leb (byteLen (p + width)) (length s)) SHORT p
+
+-- 10, then 12: illegal field; its first bit
+unfoldable pub fieldTest : List ℕ → ℕ → ℕ → Bool → Verdict
+fieldTest s p width legal = shortTest s p width then test legal FIELD p
+
+-- ---- the header of 32 bits
+
+-- n - 1 in 12
+unfoldable pub framesOf : List ℕ → ℕ
+framesOf s = fieldAt s 4 12 + 1
+
+-- k in 13
+unfoldable pub stopOf : List ℕ → ℕ
+stopOf s = fieldAt s 16 13
+
+-- version 4 (value 1), n - 1 in 12, k in 13 (over n: FIELD), spare 3 (not 0: FIELD)
+unfoldable pub headerTest : List ℕ → Verdict
+headerTest s =
+    shortTest s 0 4 then test (eqb (fieldAt s 0 4) 1) VERSION 0
+    then shortTest s 4 12
+    then fieldTest s 16 13 (leb (stopOf s) (framesOf s))
+    then fieldTest s 29 3 (eqb (fieldAt s 29 3) 0)
+
+-- ---- the order
+
+-- the frame of rank r, as the file gives it
+unfoldable pub frameAt : List ℕ → ℕ → ℕ
+frameAt s r = fieldAt s (32 + 12 * r) 12
+
+-- an order field of 12 (n or more, or a repeat: FIELD)
+unfoldable pub orderFieldTest : List ℕ → ℕ → ℕ → Verdict
+orderFieldTest s n r = fieldTest s (32 + 12 * r) 12 (not (faultyRank n (frameAt s) r))
+
+-- `left` order fields from rank r on
+unfoldable pub orderFrom : List ℕ → ℕ → ℕ → ℕ → Verdict
+orderFrom s n r zero = Verdict.Fine
+orderFrom s n r (suc left) =
+    let rest : Verdict = orderFrom s n (suc r) left in
+    orderFieldTest s n r then rest
+
+-- ---- the rows
+
+-- rank 12 (k or more, or not above the one before: FIELD), joins 12 (n or more: FIELD); `low` is one above the rank before
+unfoldable pub entryTest : List ℕ → ℕ → ℕ → ℕ → ℕ → Verdict
+entryTest s n k p low =
+    fieldTest s p 12 (leb low (fieldAt s p 12) && ltb (fieldAt s p 12) k)
+    then fieldTest s (p + 12) 12 (ltb (fieldAt s (p + 12) 12) n)
+
+-- `left` entries from bit p on
+unfoldable pub entriesFrom : List ℕ → ℕ → ℕ → ℕ → ℕ → ℕ → Verdict
+entriesFrom s n k p low zero = Verdict.Fine
+entriesFrom s n k p low (suc left) =
+    let rest : Verdict = entriesFrom s n k (p + 24) (fieldAt s p 12 + 1) left in
+    entryTest s n k p low then rest
+
+-- for frame v a count of 9 (over 256: FIELD; else over W: ROOM) and its entries
+unfoldable pub rowTest : List ℕ → ℕ → ℕ → ℕ → ℕ → ℕ → Verdict
+rowTest s n k w v p =
+    let entries : Verdict = entriesFrom s n k (p + 9) 0 (fieldAt s p 9) in
+    fieldTest s p 9 (leb (fieldAt s p 9) 256) then test (leb (fieldAt s p 9) w) ROOM v then entries
+
+-- the bit behind the row at bit p
+unfoldable pub behind : List ℕ → ℕ → ℕ
+behind s p = p + 9 + 24 * fieldAt s p 9
+
+-- how many rows were whole, the bit behind them, and what came next
+abbrev pub whole : ℕ → ℕ → Verdict → Whole
+whole rows bit verdict = record { rows = rows; bit = bit; verdict = verdict }
+
+-- the first row that is refused ends the rows
+unfoldable pub goOn : Verdict → ℕ → ℕ → Whole → Whole
+goOn Verdict.Fine v p rest = rest
+goOn (Verdict.Refused r) v p rest = whole v p (Verdict.Refused r)
+
+-- `left` rows from frame v and bit p on
+unfoldable pub rowsFrom : List ℕ → ℕ → ℕ → ℕ → ℕ → ℕ → ℕ → Whole
+rowsFrom s n k w v p zero = whole v p Verdict.Fine
+rowsFrom s n k w v p (suc left) =
+    let rest : Whole = rowsFrom s n k w (suc v) (behind s p) left in
+    goOn (rowTest s n k w v p) v p rest
+
+-- all rows, behind the order
+unfoldable pub rowsOf : List ℕ → ℕ → ℕ → ℕ → Whole
+rowsOf s n k w = rowsFrom s n k w 0 (32 + 12 * n) n
+
+-- ---- the end
+
+-- zero bits fill the last byte (else FIELD at the first of them); 13: bytes after the layout; bytes the layout uses
+unfoldable pub endTest : List ℕ → ℕ → Verdict
+endTest s p =
+    test (eqb (fieldAt s p (padLen p)) 0) FIELD p then test (leb (length s) (byteLen p)) LONG (byteLen p)
+
+-- everything behind the header, in bit order, then 13
+unfoldable pub bodyTest : List ℕ → ℕ → ℕ → ℕ → Verdict
+bodyTest s n k w =
+    let rows : Whole = rowsOf s n k w in
+    orderFrom s n 0 n then rows .verdict then endTest s (rows .bit)
+
+-- ---- the reader
+
+-- width W, 1 to 256
+unfoldable pub widthFits : ℕ → Bool
+widthFits w = leb 1 w && leb w 256
+
+-- the label room has n * W places, the count room and the order room n
+unfoldable pub lengthsFit : ℕ → ℕ → ℕ → ℕ → ℕ → Bool
+lengthsFit n w order labels counts = eqb order n && eqb labels (n * w) && eqb counts n
+
+-- 1 for W, the header's fields in bit order, 2, then the other fields in bit order, then 13
+unfoldable pub readTest : List ℕ → ℕ → ℕ → ℕ → ℕ → Verdict
+readTest s w order labels counts =
+    test (widthFits w) SIZE 0
+    then headerTest s
+    then test (lengthsFit (framesOf s) w order labels counts) LENGTH 0
+    then bodyTest s (framesOf s) (stopOf s) w
+
+-- an index of n frames and stop k where the tests are fine, else their refusal
+unfoldable pub opened : Verdict → ℕ → ℕ → Opened
+opened Verdict.Fine n k = Opened.Index n k
+opened (Verdict.Refused r) n k = Opened.Refused r
+
+-- the header alone: n and k, or the refusal
+unfoldable pub headerOf : List ℕ → Opened
+headerOf s = opened (headerTest s) (framesOf s) (stopOf s)
+
+-- ---- what the rooms hold
+
+-- the bit at which row v starts
+unfoldable pub rowBit : List ℕ → ℕ → ℕ → ℕ
+rowBit s n zero = 32 + 12 * n
+rowBit s n (suc v) = behind s (rowBit s n v)
+
+-- the count of frame v
+unfoldable pub countAt : List ℕ → ℕ → ℕ → ℕ
+countAt s n v = fieldAt s (rowBit s n v) 9
+
+-- the entry at bit p
+unfoldable pub entryAt : List ℕ → ℕ → ℕ
+entryAt s p = entryOf (fieldAt s p 12) (fieldAt s (p + 12) 12)
+
+-- a place of the label room: place v * w + i holds entry i of row v, and 0 in unused places
+unfoldable pub labelAt : List ℕ → ℕ → ℕ → ℕ → ℕ
+labelAt s n w at =
+    cond (ltb (at % w) (countAt s n (at / w))) (entryAt s (rowBit s n (at / w) + 9 + 24 * (at % w))) 0
+
+-- the rooms that a file fills: the order, the entries with 0 in unused places, the counts
+unfoldable pub orderRead : List ℕ → ℕ → List ℕ
+orderRead s n = table n (frameAt s)
+
+unfoldable pub labelsRead : List ℕ → ℕ → ℕ → List ℕ
+labelsRead s n w = table (n * w) (labelAt s n w)
+
+unfoldable pub countsRead : List ℕ → ℕ → List ℕ
+countsRead s n = table n (countAt s n)
+
+-- an answer and what the three rooms then hold
+pub record Outcome : Type 0 where
+  pub answer : Opened
+  pub order : List ℕ
+  pub labels : List ℕ
+  pub counts : List ℕ
+
+abbrev pub outcome : Opened → List ℕ → List ℕ → List ℕ → Outcome
+outcome answer order labels counts = record { answer = answer; order = order; labels = labels; counts = counts }
+
+-- the rooms filled where the tests are fine, else as lent
+unfoldable pub filledIn : Verdict → List ℕ → ℕ → List ℕ → List ℕ → List ℕ → Outcome
+filledIn Verdict.Fine s w order labels counts =
+    outcome (Opened.Index (framesOf s) (stopOf s))
+    (orderRead s (framesOf s))
+    (labelsRead s (framesOf s) w)
+    (countsRead s (framesOf s))
+filledIn (Verdict.Refused r) s w order labels counts = outcome (Opened.Refused r) order labels counts
+
+-- the reader
+unfoldable pub readOf : List ℕ → ℕ → List ℕ → List ℕ → List ℕ → Outcome
+readOf s w order labels counts =
+    filledIn (readTest s w (length order) (length labels) (length counts)) s w order labels counts
+
+-- ---- the paper's numbers of an answer
+
+-- number and place, n and k
+pub record Told : Type 0 where
+  pub number : ℕ
+  pub place : ℕ
+  pub frames : ℕ
+  pub stop : ℕ
+
+abbrev pub tell : ℕ → ℕ → ℕ → ℕ → Told
+tell number place frames stop = record { number = number; place = place; frames = frames; stop = stop }
+
+-- success is 0; a refusal gives number and place, and every other number is then 0
+unfoldable pub told : Opened → Told
+told (Opened.Index n k) = tell 0 0 n k
+told (Opened.Refused r) = tell (r .number) (r .place) 0 0
+
+-- the same of tests and of what they let through
+unfoldable pub tellOf : Verdict → ℕ → ℕ → Told
+tellOf Verdict.Fine n k = tell 0 0 n k
+tellOf (Verdict.Refused r) n k = tell (r .number) (r .place) 0 0

@@ -1,0 +1,41 @@
+-- What one step of the reader asks, and what it hands to the next.
+use Prim.Native.Nat.{ℕ, _+_, _^_, _≤_, _<_}
+use mathlib.Core.Path.{_≡_}
+use mathlib.Core.Bool.{Bool, false}
+use mathlib.Core.List.{List}
+use lib.ListN.{length, getD}
+use Rattle.links.specs.Order.{stands}
+use Rattle.file.specs.Bits.{byteLen}
+use Rattle.file.specs.Reader.{frameAt}
+use Rattle.refusal.specs.declared.Verdict.{Verdict}
+use Rattle.file.specs.declared.get.Step.{Step}
+
+-- ---- what a step asks
+
+-- a field of a file: at most 16 bits, and far from the bits that a number cannot count
+pub record Near (p width : ℕ) : Type 0 where
+  pub narrow : width ≤ 16
+  pub near : p ≤ 2 ^ 32
+
+-- a field whose bytes are there
+pub record Inside (s : List ℕ) (p width : ℕ) : Type 0 where
+  pub narrow : width ≤ 16
+  pub near : p ≤ 2 ^ 32
+  pub there : byteLen (p + width) ≤ length s
+
+-- ---- what it hands on
+
+-- a number to go on with where the tests are fine, else their refusal
+unfoldable pub step : Verdict → ℕ → Step
+step Verdict.Fine x = Step.On x
+step (Verdict.Refused r) x = Step.Refused r
+
+-- the tests alone
+unfoldable pub verdictOf : Step → Verdict
+verdictOf (Step.On x) = Verdict.Fine
+verdictOf (Step.Refused r) = Verdict.Refused r
+
+-- the flags say which frames stand below rank r
+pub record Seen (s : List ℕ) (seen : List Bool) (r : ℕ) : Type 0 where
+  pub long : length seen ≡ 4096
+  pub has : (v : ℕ) → v < 4096 → getD seen v false ≡ stands (frameAt s) r v

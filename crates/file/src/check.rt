@@ -1,0 +1,211 @@
+// The tests on the fields behind the header, in bit order. Nothing is stored here but which frames the order has had.
+use crate::Opened;
+use crate::Whole;
+use crate::get;
+use crate::get::Step;
+use crate::widths;
+use refusal::Verdict;
+ghost use Prim.Native.Nat.{_+_, _*_, _≤_, _<_};
+ghost use mathlib.Core.Path.{_≡_};
+ghost use lib.ListN.{length};
+ghost use Rattle.file.specs.Bits.{fieldAt, byteLen};
+ghost use Rattle.file.specs.Reader.{frameAt, orderFieldTest, orderFrom, entryTest, entriesFrom, rowTest, behind, rowsOf, endTest, bodyTest, framesOf, stopOf, readTest, opened};
+ghost use Rattle.file.specs.Steps.{step, Seen};
+
+// The order field of rank r: its frame, or the refusal; `seen` has the frames that stand at lower ranks.
+pub fn order_field(bytes: &[u8], n: usize, r: usize, seen: &mut [bool]) -> Step
+    requires { ⌜ (n ≤ 4096) × (r < n) × Seen (now bytes) (now seen) r ⌝ }
+    ensures found { λ x. ⌜ x ≡ step (orderFieldTest (now (bytes .entry)) n r) (frameAt (now (bytes .entry)) r) ⌝ }
+    ensures noted { λ x. ⌜ (orderFieldTest (now (bytes .entry)) n r ≡ Verdict.Fine → Seen (now (bytes .entry)) (now (seen .exit)) (r + 1)) ⌝ }
+{
+    let p = widths::HEADER_BITS + widths::FRAME_BITS * r;
+    let got = get::field(bytes, p, widths::FRAME_BITS);
+    let Step::On(v) = got else {
+        return got;
+    };
+    if n <= v {
+        return get::stop(refusal::FIELD, p);
+    }
+    if seen[v] {
+        return get::stop(refusal::FIELD, p);
+    }
+    seen[v] = true;
+    Step::On(v)
+}
+
+// All order fields.
+pub fn order(bytes: &[u8], n: usize) -> Verdict
+    requires { ⌜ n ≤ 4096 ⌝ }
+    ensures { λ x. ⌜ x ≡ orderFrom (now (bytes .entry)) n 0 n ⌝ }
+{
+    let mut seen = [false; 4096];
+    let mut r: usize = 0;
+    while r < n {
+        let got = order_field(bytes, n, r, &mut seen);
+        let Step::On(_) = got else {
+            return get::verdict(got);
+        };
+        r += 1;
+    }
+    Verdict::Fine
+}
+
+// One entry at bit p: its rank, which is `low` or more, or the refusal.
+pub fn entry(bytes: &[u8], n: usize, k: usize, p: usize, low: usize) -> Step
+    requires { ⌜ p < 1073741824 ⌝ }
+    ensures { λ x. ⌜ x ≡ step (entryTest (now (bytes .entry)) n k p low) (fieldAt (now (bytes .entry)) p 12) ⌝ }
+{
+    let got = get::field(bytes, p, widths::RANK_BITS);
+    let Step::On(rank) = got else {
+        return got;
+    };
+    if rank < low {
+        return get::stop(refusal::FIELD, p);
+    }
+    if k <= rank {
+        return get::stop(refusal::FIELD, p);
+    }
+    let at = p + widths::RANK_BITS;
+    let more = get::field(bytes, at, widths::JOINS_BITS);
+    let Step::On(joins) = more else {
+        return more;
+    };
+    if n <= joins {
+        return get::stop(refusal::FIELD, at);
+    }
+    Step::On(rank)
+}
+
+// The entries of a row, from bit p on.
+pub fn entries(bytes: &[u8], n: usize, k: usize, p: usize, count: usize) -> Verdict
+    requires { ⌜ (p < 536870912) × (count ≤ 256) ⌝ }
+    ensures { λ x. ⌜ x ≡ entriesFrom (now (bytes .entry)) n k p 0 count ⌝ }
+{
+    let mut at = p;
+    let mut low: usize = 0;
+    let mut left = count;
+    while 0 < left {
+        let got = entry(bytes, n, k, at, low);
+        let Step::On(rank) = got else {
+            return get::verdict(got);
+        };
+        low = rank + 1;
+        at += widths::ENTRY_BITS;
+        left -= 1;
+    }
+    Verdict::Fine
+}
+
+// The row of frame v at bit p: the bit behind it, or the refusal.
+pub fn row(bytes: &[u8], n: usize, k: usize, w: usize, v: usize, p: usize) -> Step
+    requires { ⌜ p < 268435456 ⌝ }
+    ensures { λ x. ⌜ x ≡ step (rowTest (now (bytes .entry)) n k w v p) (behind (now (bytes .entry)) p) ⌝ }
+{
+    let got = get::field(bytes, p, widths::COUNT_BITS);
+    let Step::On(count) = got else {
+        return got;
+    };
+    if 256 < count {
+        return get::stop(refusal::FIELD, p);
+    }
+    if w < count {
+        return get::stop(refusal::ROOM, v);
+    }
+    let at = p + widths::COUNT_BITS;
+    let tested = entries(bytes, n, k, at, count);
+    if let Verdict::Refused(f) = tested {
+        return Step::Refused(f);
+    }
+    Step::On(at + widths::ENTRY_BITS * count)
+}
+
+// All rows: how many were whole, the bit behind them, and what came next.
+pub fn rows(bytes: &[u8], n: usize, k: usize, w: usize) -> Whole
+    requires { ⌜ n ≤ 4096 ⌝ }
+    ensures { λ x. ⌜ x ≡ rowsOf (now (bytes .entry)) n k w ⌝ }
+{
+    let mut v: usize = 0;
+    let mut p = widths::HEADER_BITS + widths::FRAME_BITS * n;
+    while v < n {
+        let got = row(bytes, n, k, w, v, p);
+        let Step::On(next) = got else {
+            return Whole {
+                rows: v,
+                bit: p,
+                verdict: get::verdict(got),
+            };
+        };
+        p = next;
+        v += 1;
+    }
+    Whole {
+        rows: v,
+        bit: p,
+        verdict: Verdict::Fine,
+    }
+}
+
+// The end of the layout at bit p: its fill bits, and that no byte follows.
+pub fn end(bytes: &[u8], p: usize) -> Verdict
+    requires { ⌜ (p < 536870912) × (byteLen p ≤ length (now bytes)) ⌝ }
+    ensures { λ x. ⌜ x ≡ endTest (now (bytes .entry)) p ⌝ }
+{
+    let used = (p + 7) / 8;
+    let fill = get::get(bytes, p, 8 * used - p);
+    if fill != 0 {
+        return get::refused(refusal::FIELD, p);
+    }
+    if used < bytes.len() {
+        return get::refused(refusal::LONG, used);
+    }
+    Verdict::Fine
+}
+
+// Everything behind the header.
+pub fn body(bytes: &[u8], n: usize, k: usize, w: usize) -> Verdict
+    requires { ⌜ (n ≤ 4096) × (4 ≤ length (now bytes)) ⌝ }
+    ensures { λ x. ⌜ x ≡ bodyTest (now (bytes .entry)) n k w ⌝ }
+{
+    let ordered = order(bytes, n);
+    let Verdict::Fine = ordered else {
+        return ordered;
+    };
+    let found = rows(bytes, n, k, w);
+    let tested = found.verdict;
+    let Verdict::Fine = tested else {
+        return tested;
+    };
+    let bit = found.bit;
+    end(bytes, bit)
+}
+
+// The whole file against a width and the lengths of three rooms: n and k, or the refusal.
+pub fn file(bytes: &[u8], w: usize, order: usize, labels: usize, counts: usize) -> Opened
+    ensures { λ x. ⌜ x ≡ opened (readTest (now (bytes .entry)) w order labels counts) (framesOf (now (bytes .entry))) (stopOf (now (bytes .entry))) ⌝ }
+{
+    if w < 1 {
+        return get::closed(refusal::SIZE, 0);
+    }
+    if 256 < w {
+        return get::closed(refusal::SIZE, 0);
+    }
+    let headed = crate::header(bytes);
+    let Opened::Index(n, k) = headed else {
+        return headed;
+    };
+    if order != n {
+        return get::closed(refusal::LENGTH, 0);
+    }
+    let places = n * w;
+    if labels != places {
+        return get::closed(refusal::LENGTH, 0);
+    }
+    if counts != n {
+        return get::closed(refusal::LENGTH, 0);
+    }
+    let tested = body(bytes, n, k, w);
+    if let Verdict::Refused(f) = tested {
+        return Opened::Refused(f);
+    }
+    Opened::Index(n, k)
+}

@@ -1,0 +1,26 @@
+// How wide the fields of the index file are, in bits: the one place in the code, for the writer and the reader.
+
+pub const VERSION_BITS: usize = 4;
+
+pub const FRAMES_BITS: usize = 12;
+
+pub const STOP_BITS: usize = 13;
+
+pub const SPARE_BITS: usize = 3;
+
+pub const FRAME_BITS: usize = 12;
+
+pub const COUNT_BITS: usize = 9;
+
+pub const RANK_BITS: usize = 12;
+
+pub const JOINS_BITS: usize = 12;
+
+// What stands before the order.
+pub const HEADER_BITS: usize = VERSION_BITS + FRAMES_BITS + STOP_BITS + SPARE_BITS;
+
+// What a frame takes: its place in the order and its count.
+pub const EACH_FRAME_BITS: usize = FRAME_BITS + COUNT_BITS;
+
+// What an entry takes.
+pub const ENTRY_BITS: usize = RANK_BITS + JOINS_BITS;

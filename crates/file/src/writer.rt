@@ -1,0 +1,134 @@
+// The parts of the writer: the tests that stand before it, the bytes that the file has, and the file put into a stretch
+// that is just as long.
+ghost use mathlib.Core.Path.{_≡_};
+ghost use Prim.Native.Nat.{_+_, _*_, _/_, _≤_};
+ghost use lib.ListN.{length};
+ghost use Rattle.basics.specs.Places.{sum};
+ghost use Rattle.file.specs.Layout.{fileOf};
+ghost use Rattle.file.specs.Writer.{indexSizes, indexLengths, writeTests, Fit};
+use crate::put;
+use crate::put::Pen;
+use crate::widths;
+use links;
+use refusal;
+use refusal::Refusal;
+use refusal::Verdict;
+use rows::check;
+use rows::entry::Entry;
+
+// Whether n, W and k are in range.
+pub fn sizes_fit(n: usize, w: usize, k: usize) -> bool
+    ensures { λ r. ⌜ r ≡ indexSizes n k w ⌝ }
+{
+    if n < 1 {
+        return false;
+    }
+    if 4096 < n {
+        return false;
+    }
+    if w < 1 {
+        return false;
+    }
+    if 256 < w {
+        return false;
+    }
+    k <= n
+}
+
+// Whether the rooms have their lengths.
+pub fn lengths_fit(n: usize, w: usize, order: &[u32], labels: &[Entry], counts: &[u32]) -> bool
+    requires { ⌜ (n ≤ 4096) × (w ≤ 256) ⌝ }
+    ensures { λ r. ⌜ r ≡ indexLengths n w (now (order .entry)) (now (labels .entry)) (now (counts .entry)) ⌝ }
+{
+    if order.len() != n {
+        return false;
+    }
+    if labels.len() != n * w {
+        return false;
+    }
+    counts.len() == n
+}
+
+// The tests on the index: 1, 2, 5, and 9 with the bound k.
+pub fn tests(
+    n: usize,
+    w: usize,
+    k: usize,
+    order: &[u32],
+    labels: &[Entry],
+    counts: &[u32],
+) -> Verdict
+    ensures { λ r. ⌜ r ≡ writeTests n k w (now (order .entry)) (now (labels .entry)) (now (counts .entry)) ⌝ }
+{
+    let sizes = sizes_fit(n, w, k);
+    if !sizes {
+        return Verdict::Refused(Refusal {
+            number: refusal::SIZE,
+            place: 0,
+        });
+    }
+    let lengths = lengths_fit(n, w, order, labels, counts);
+    if !lengths {
+        return Verdict::Refused(Refusal {
+            number: refusal::LENGTH,
+            place: 0,
+        });
+    }
+    let once = links::check_order(n, order);
+    let Verdict::Fine = once else {
+        return once;
+    };
+    check::check_rows(k, n, w, labels, counts)
+}
+
+// The sum of all counts.
+pub fn total(counts: &[u32]) -> usize
+    requires { ⌜ length (now counts) ≤ 4096 ⌝ }
+    ensures { λ r. ⌜ (r ≡ sum (now (counts .entry))) × (r ≤ 4096 * 4294967296) ⌝ }
+{
+    let mut entries: usize = 0;
+    let mut v = 0;
+    while v < counts.len() {
+        let count = counts[v] as usize;
+        entries += count;
+        v += 1;
+    }
+    entries
+}
+
+// The bytes that the file has: 4 for the header, and 21 bits for each frame and 24 for each entry, rounded up.
+pub fn size(n: usize, counts: &[u32]) -> usize
+    requires { ⌜ (n ≤ 4096) × (length (now counts) ≤ 4096) ⌝ }
+    ensures { λ r. ⌜ r ≡ 4 + (21 * n + 24 * sum (now (counts .entry)) + 7) / 8 ⌝ }
+{
+    let entries = total(counts);
+    let bits = widths::EACH_FRAME_BITS * n + widths::ENTRY_BITS * entries;
+    widths::HEADER_BITS / 8 + (bits + 7) / 8
+}
+
+// Puts the whole file into a stretch of just its length.
+pub fn fill(
+    out: &mut [u8],
+    n: usize,
+    w: usize,
+    k: usize,
+    order: &[u32],
+    labels: &[Entry],
+    counts: &[u32],
+)
+    requires { ⌜
+        Fit n k w (now order) (now labels) (now counts)
+        × (length (now out) ≡ length (fileOf n k w (now order) (now labels) (now counts)))
+        ⌝ }
+    ensures { λ _. ⌜ now (out .exit) ≡ fileOf n k w (now (order .entry)) (now (labels .entry)) (now (counts .entry)) ⌝ }
+{
+    let pen = Pen {
+        at: 0,
+        acc: 0,
+        nb: 0,
+    };
+    let headed = put::put_header(out, pen, n, k);
+    let ordered = put::put_order(out, headed, order);
+    let done = put::put_rows(out, ordered, n, w, labels, counts);
+    put::close(out, done);
+}

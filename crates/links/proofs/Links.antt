@@ -1,0 +1,265 @@
+-- The tests on a block of links: that sizes and lengths tested first leave tests 3 and 4, and that these passed give
+-- exactly what the theory asks of a block.
+use Prim.Native.Nat.{ℕ, zero, suc, _+_, _-_, _≤_, _<_}
+use mathlib.Core.Path.{_≡_, refl, sym, ap, _∙_}
+use mathlib.Core.Bool.{Bool, true, false, not, _||_, _&&_, and-false, or-true}
+use mathlib.Core.List.{List}
+use native.Mathlib.Omega.{arith}
+use native.Mathlib.Numerals.{add-one}
+use native.Mathlib.Decide.{ℕ-discrete}
+use lib.ListN.{length, getD}
+use lib.Dec.{leb, ltb, eqb}
+use borrow.Author.Tests.{le-leb, lt-leb, lt-ltb, eq-eqb, ne-eqb, leb-false, ltb-false, eqb-true, eqb-false}
+use Rattle.basics.specs.Places.{first, some}
+use Rattle.basics.proofs.Laws.{by-cases, both, both-true, either-false, either-left, either-right, neither, not-of-true, not-of-false, of-not-true, of-not-false, first-before, some-one, some-found, some-not, some-first, none-first}
+use Rattle.refusal.specs.Numbers.{SIZE, LENGTH, STARTS, LINKS}
+use Rattle.refusal.specs.Tests.{_then_, refusal}
+use Rattle.refusal.specs.declared.Verdict.the-variants.{Fine, Refused}
+use Rattle.refusal.proofs.Laws.{test-fine, test-refused, test-held, after-fine, after-refused}
+use Rattle.theory.specs.Links.{Block, Link}
+use Rattle.theory.specs.Plain.{ones}
+use Rattle.links.specs.Links.{framesFit, placesFit, falls, startsRight, degree, holds, notAbove, faultyLink, faultyList, startsTest, listsTest, checkLinks}
+use Rattle.links.specs.Inner.{Starts, ListIn}
+
+-- ---- sizes and lengths
+
+pub frames-fit : (n : ℕ) → 1 ≤ n → n ≤ 4096 → framesFit n ≡ true
+unfolding framesFit
+frames-fit n one most = both _ _ (le-leb 1 n one) (le-leb n 4096 most)
+
+pub no-frames : (n : ℕ) → n < 1 → framesFit n ≡ false
+unfolding framesFit
+no-frames n few = rw (lt-leb 1 n few) refl
+
+pub many-frames : (n : ℕ) → 4096 < n → framesFit n ≡ false
+unfolding framesFit
+many-frames n many = rw (le-leb 1 n (omega arith), lt-leb n 4096 many) refl
+
+pub places-fit : (l : ℕ) → l ≤ 65536 → placesFit l ≡ true
+unfolding placesFit
+places-fit l most = le-leb l 65536 most
+
+pub many-places : (l : ℕ) → 65536 < l → placesFit l ≡ false
+unfolding placesFit
+many-places l many = lt-leb l 65536 many
+
+-- the SIZE test of n and the neighbour places
+pub size-few : (n l : ℕ) → n < 1 → framesFit n && placesFit l ≡ false
+size-few n l few = rw (no-frames n few) refl
+
+pub size-many : (n l : ℕ) → 4096 < n → framesFit n && placesFit l ≡ false
+size-many n l many = rw (many-frames n many) refl
+
+pub size-places : (n l : ℕ) → 65536 < l → framesFit n && placesFit l ≡ false
+size-places n l many = rw (many-places l many, and-false) refl
+
+pub size-fits : (n l : ℕ) → 1 ≤ n → n ≤ 4096 → l ≤ 65536 → framesFit n && placesFit l ≡ true
+size-fits n l one most room = both _ _ (frames-fit n one most) (places-fit l room)
+
+pub links-size : (n : ℕ) (S L : List ℕ) → framesFit n && placesFit (length L) ≡ false
+    → checkLinks n S L ≡ Refused (refusal SIZE 0)
+unfolding checkLinks
+links-size n S L e = after-refused _ (test-refused _ _ e)
+
+pub links-length : (n : ℕ) (S L : List ℕ) → 1 ≤ n → n ≤ 4096 → length L ≤ 65536 → (length S ≡ n + 1 → ⊥)
+    → checkLinks n S L ≡ Refused (refusal LENGTH 0)
+unfolding checkLinks
+links-length n S L one most room other =
+    after-fine _ (test-fine _ _ (size-fits n (length L) one most room))
+    ∙ after-refused _ (test-refused _ _ (ne-eqb (length S) (n + 1) other))
+
+-- where sizes and lengths fit, check links is tests 3 and 4
+pub links-alone : (n : ℕ) (S L : List ℕ) → 1 ≤ n → n ≤ 4096 → length L ≤ 65536 → length S ≡ n + 1
+    → checkLinks n S L ≡ (startsTest n S L then listsTest n S L)
+unfolding checkLinks
+links-alone n S L one most room long =
+    after-fine _ (test-fine _ _ (size-fits n (length L) one most room))
+    ∙ after-fine _ (test-fine _ _ (eq-eqb (length S) (n + 1) long))
+
+-- ---- start positions
+
+pub starts-front : (n : ℕ) (S L : List ℕ) → (getD S 0 0 ≡ 0 → ⊥) → startsRight n S L ≡ false
+unfolding startsRight
+starts-front n S L other = rw (ne-eqb (getD S 0 0) 0 other) refl
+
+pub starts-fall : (n : ℕ) (S L : List ℕ) → some (falls S) 0 n ≡ true → startsRight n S L ≡ false
+unfolding startsRight
+starts-fall n S L e = rw (e, and-false) refl
+
+pub starts-last : (n : ℕ) (S L : List ℕ) → getD S 0 0 ≡ 0 → some (falls S) 0 n ≡ false
+    → startsRight n S L ≡ eqb (getD S n 0) (length L)
+unfolding startsRight
+starts-last n S L front e = rw (eq-eqb (getD S 0 0) 0 front, e) refl
+
+-- ---- tests 3 and 4 in a row
+
+pub right-starts : (n : ℕ) (S L : List ℕ) → startsTest n S L ≡ Fine → startsRight n S L ≡ true
+unfolding startsTest
+right-starts n S L fine = test-held _ _ _ fine
+
+pub tests-starts : (n : ℕ) (S L : List ℕ) → startsRight n S L ≡ false
+    → (startsTest n S L then listsTest n S L) ≡ Refused (refusal STARTS 0)
+unfolding startsTest
+tests-starts n S L e = after-refused _ (test-refused _ _ e)
+
+pub tests-lists : (n : ℕ) (S L : List ℕ) (v : ℕ) → startsRight n S L ≡ true → v ≡ first (faultyList n S L) 0 n
+    → (v ≡ n → ⊥) → (startsTest n S L then listsTest n S L) ≡ Refused (refusal LINKS v)
+unfolding startsTest listsTest
+tests-lists n S L v e here other =
+    after-fine _ (test-fine _ _ e) ∙ rw (← here) (test-refused LINKS v (ne-eqb v n other))
+
+pub tests-fine : (n : ℕ) (S L : List ℕ) (v : ℕ) → startsRight n S L ≡ true → v ≡ first (faultyList n S L) 0 n
+    → v ≡ n → (startsTest n S L then listsTest n S L) ≡ Fine
+unfolding startsTest listsTest
+tests-fine n S L v e here whole =
+    after-fine _ (test-fine _ _ e) ∙ rw (← here) (test-fine LINKS v (eq-eqb v n whole))
+
+-- ---- start positions that are kept
+
+-- start positions that keep their rule, at sizes and lengths that fit
+pub starts-kept : (n : ℕ) (S L : List ℕ) → startsRight n S L ≡ true → n ≤ 4096 → length L ≤ 65536 → length S ≡ n + 1
+    → Starts n S L
+unfolding startsRight
+starts-kept n S L right most room long =
+    let (begin, last) =
+    both-true (eqb (getD S 0 0) 0 && not (some (falls S) 0 n)) (eqb (getD S n 0) (length L)) right in
+    let (front, rise) = both-true (eqb (getD S 0 0) 0) (not (some (falls S) 0 n)) begin in
+    record {
+      frames = most;
+      places = room;
+      long = long;
+      front = eqb-true _ _ front;
+      rise = λ v h. ltb-false _ _ (some-not (falls S) 0 n v (of-not-true _ rise) (omega arith) (omega arith));
+      last = eqb-true _ _ last;
+    }
+
+-- start positions never fall
+pub starts-rise : {n : ℕ} (S : List ℕ) {L : List ℕ} → Starts n S L → (u v : ℕ) → u ≤ v → v ≤ n → getD S u 0 ≤ getD S v 0
+starts-rise S s u zero h k = omega (arith, ap (λ (j : ℕ). getD S j 0) (let e : u ≡ 0 = omega arith in e))
+starts-rise S s u (suc v) h k =
+    by-cases (ℕ-discrete u (suc v))
+    (λ (e : u ≡ suc v). omega (arith, ap (λ (j : ℕ). getD S j 0) e))
+    (λ e.
+    let next : getD S (v + 1) 0 ≡ getD S (suc v) 0 = ap (λ (j : ℕ). getD S j 0) (add-one v) in
+    omega (arith, starts-rise S s u v (omega arith) (omega arith), s .rise v (omega arith)))
+
+-- a list lies within the neighbour places
+pub starts-within : {n : ℕ} (S : List ℕ) {L : List ℕ} → Starts n S L → (v : ℕ) → v ≤ n → getD S v 0 ≤ length L
+starts-within {n} S s v h = omega (arith, s .last, starts-rise S s v n h (omega arith))
+
+pub list-in : {n : ℕ} (S : List ℕ) {L : List ℕ} → Starts n S L → (v : ℕ) → v < n → ListIn S L v
+list-in S s v h = record {
+  frame = omega (arith, s .long);
+  rise = s .rise v h;
+  within = starts-within S s (v + 1) (omega arith);
+  places = s .places;
+}
+
+-- ---- the mirror
+
+-- a place of w's list that holds v is enough
+pub holds-at : (S L : List ℕ) (w v i : ℕ) → getD S w 0 ≤ i → i < getD S (w + 1) 0 → getD L i 0 ≡ v → holds S L w v ≡ true
+unfolding holds degree
+holds-at S L w v i low high e =
+    some-one (λ j. eqb (getD L j 0) v) (getD S w 0) (degree S w) i low (omega arith) (eq-eqb _ _ e)
+
+-- a search of w's list that ends before its end has found v
+pub holds-found : (S L : List ℕ) (w v i : ℕ) → getD S w 0 ≤ getD S (w + 1) 0
+    → i ≡ first (λ j. eqb (getD L j 0) v) (getD S w 0) (getD S (w + 1) 0 - getD S w 0) → i < getD S (w + 1) 0
+    → holds S L w v ≡ true
+unfolding holds degree
+holds-found S L w v i rise e h = some-first (λ j. eqb (getD L j 0) v) (getD S w 0) (degree S w) (omega arith)
+
+pub holds-not : (S L : List ℕ) (w v i : ℕ) → getD S w 0 ≤ getD S (w + 1) 0
+    → i ≡ first (λ j. eqb (getD L j 0) v) (getD S w 0) (getD S (w + 1) 0 - getD S w 0) → getD S (w + 1) 0 ≤ i
+    → holds S L w v ≡ false
+unfolding holds degree
+holds-not S L w v i rise e h = none-first (λ j. eqb (getD L j 0) v) (getD S w 0) (degree S w) (omega arith)
+
+-- ---- a faulty link, and a sound one
+
+module _ (n : ℕ) (S L : List ℕ) (v i : ℕ) where
+  pub link-out : n ≤ getD L i 0 → faultyLink n S L v i ≡ true
+  unfolding faultyLink
+  link-out h = rw (le-leb n (getD L i 0) h) refl
+
+  pub link-self : getD L i 0 ≡ v → faultyLink n S L v i ≡ true
+  unfolding faultyLink
+  link-self e = rw (eq-eqb (getD L i 0) v e, or-true) refl
+
+  pub link-falls : notAbove S L v i ≡ true → faultyLink n S L v i ≡ true
+  unfolding faultyLink
+  link-falls e = either-left _ _ (either-right (leb n (getD L i 0) || eqb (getD L i 0) v) _ e)
+
+  pub link-alone : holds S L (getD L i 0) v ≡ false → faultyLink n S L v i ≡ true
+  unfolding faultyLink
+  link-alone e = either-right (leb n (getD L i 0) || eqb (getD L i 0) v || notAbove S L v i) _ (not-of-false e)
+
+  pub link-fine : getD L i 0 < n → (getD L i 0 ≡ v → ⊥) → notAbove S L v i ≡ false → holds S L (getD L i 0) v ≡ true
+      → faultyLink n S L v i ≡ false
+  unfolding faultyLink
+  link-fine inside apart above mirror =
+      neither _ _
+      (neither _ _ (neither _ _ (lt-leb n (getD L i 0) inside) (ne-eqb (getD L i 0) v apart)) above)
+      (not-of-true mirror)
+
+-- what a link that is not faulty keeps
+pub record Sound (n : ℕ) (S L : List ℕ) (v i : ℕ) : Type 0 where
+  pub inside : getD L i 0 < n
+  pub apart : getD L i 0 ≡ v → ⊥
+  pub above : getD S v 0 < i → getD L (i - 1) 0 < getD L i 0
+  pub mirror : holds S L (getD L i 0) v ≡ true
+
+pub link-sound : (n : ℕ) (S L : List ℕ) (v i : ℕ) → faultyLink n S L v i ≡ false → Sound n S L v i
+unfolding faultyLink
+link-sound n S L v i fine =
+    let w : ℕ = getD L i 0 in
+    let c : Bool = ltb (getD S v 0) i && leb w (getD L (i - 1) 0) in
+    let (abc, d) = either-false (leb n w || eqb w v || c) (not (holds S L w v)) fine in
+    let (ab, c-not) = either-false (leb n w || eqb w v) c abc in
+    let (a, b) = either-false (leb n w) (eqb w v) ab in
+    record {
+      inside = leb-false n w a;
+      apart = eqb-false w v b;
+      above = λ h. leb-false w (getD L (i - 1) 0) (sym (ap (λ (t : Bool). t && leb w (getD L (i - 1) 0)) (lt-ltb _ _ h)) ∙ c-not);
+      mirror = of-not-false _ d;
+    }
+
+-- passed tests 3 and 4 leave no faulty link
+pub lists-sound : (n : ℕ) (S L : List ℕ) → listsTest n S L ≡ Fine → (v i : ℕ) → v < n → getD S v 0 ≤ i
+    → i < getD S (v + 1) 0 → Sound n S L v i
+unfolding listsTest faultyList degree
+lists-sound n S L fine v i h low high =
+    let whole : first (faultyList n S L) 0 n ≡ n = eqb-true _ _ (test-held _ _ _ fine) in
+    let list : faultyList n S L v ≡ false = first-before (faultyList n S L) 0 n v (omega arith) (omega arith) in
+    link-sound n S L v i (some-not (faultyLink n S L v) (getD S v 0) (degree S v) i list low (omega arith))
+
+-- the mirror as the theory has it
+pub holds-link : (S L : List ℕ) (w v : ℕ) → holds S L w v ≡ true → Link S L ones w v 1
+unfolding holds degree
+holds-link S L w v e =
+    let (i, low, high, there) = some-found (λ i. eqb (getD L i 0) v) (getD S w 0) (degree S w) e in
+    record { at = i; from = low; upto = omega arith; holds = eqb-true _ _ there; costs = refl }
+
+-- tests 3 and 4 passed give a block
+pub links-sound : (n : ℕ) (S L : List ℕ) → startsTest n S L ≡ Fine → listsTest n S L ≡ Fine → 1 ≤ n → n ≤ 4096
+    → length L ≤ 65536 → length S ≡ n + 1 → Block n 1 S L ones
+links-sound n S L starts lists one most room long =
+    let s : Starts n S L = starts-kept n S L (right-starts n S L starts) most room long in
+    let at : (v i : ℕ) → v < n → getD S v 0 ≤ i → i < getD S (v + 1) 0 → Sound n S L v i = lists-sound n S L lists in
+    record {
+      some = one;
+      long = long;
+      front = s .front;
+      rise = s .rise;
+      last = s .last;
+      rising = λ v i h low high.
+          let e : i + 1 - 1 ≡ i = omega arith in
+          omega
+          (arith, ap (λ (k : ℕ). getD L k 0) e, at v (i + 1) h (omega arith) high .above (omega arith));
+      inside = λ v i h low high. at v i h low high .inside;
+      apart = λ v i h low high. at v i h low high .apart;
+      mirror = λ v i h low high. holds-link S L (getD L i 0) v (at v i h low high .mirror);
+      least = λ i h. omega arith;
+      most = λ i h. omega arith;
+    }

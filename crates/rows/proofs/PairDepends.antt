@@ -1,0 +1,147 @@
+-- A pair question's answer depends on n, W, the lengths, the two frame numbers, and these rows' counts and used entries,
+-- nothing else; and it is told by the paper's numbers.
+use Prim.Native.Nat.{ℕ, _+_, _*_, _≤_, _<_}
+use mathlib.Core.Path.{_≡_, refl, sym, ap, _∙_}
+use mathlib.Core.Bool.{Bool, true, false, not, _&&_}
+use mathlib.Core.List.{List}
+use native.Mathlib.Omega.{arith}
+use lib.ListN.{length, getD, take, drop, length-take, length-drop}
+use lib.Dec.{leb, eqb}
+use lib.Seq.{ext-getD}
+use Rattle.basics.specs.Places.{some}
+use Rattle.basics.proofs.Laws.{lt-or-ge, not-both}
+use Rattle.refusal.specs.Tests.{test, _then_}
+use Rattle.refusal.specs.declared.Refusal.{Refusal}
+use Rattle.refusal.specs.declared.Verdict.{Verdict}
+use Rattle.refusal.specs.declared.Verdict.the-variants.{Fine, Refused}
+use Rattle.refusal.proofs.Laws.{vcase}
+use Rattle.rows.specs.Rooms.{roomTests, roomsFit, sizesFit, frameTest, rowTest, part, rowAt, soundRow, faultyEntry}
+use Rattle.rows.specs.Meetings.{meetingOf}
+use Rattle.rows.specs.Pair.{pairTests, pairOf, answered, told, Told}
+use Rattle.rows.specs.declared.merge.Best.{Best}
+use Rattle.rows.specs.declared.merge.Best.the-variants.{Nowhere, Meet}
+use Rattle.rows.specs.declared.pair.Answer.{Answer}
+use Rattle.rows.specs.declared.pair.Answer.the-variants as answers
+use Rattle.rows.proofs.Laws.{getD-part, row-sound}
+use Rattle.rows.proofs.PairLaws.{pair-asked, answer-fine, answer-refused}
+use Rattle.rows.proofs.RoomLaws.{count-unsound}
+
+-- ---- nothing else
+
+-- two rooms have the same row v: its count, and its entries up to that count and up to W
+pub record SameRow (w : ℕ) (labels counts labels' counts' : List ℕ) (v : ℕ) : Type 0 where
+  pub count : getD counts v 0 ≡ getD counts' v 0
+  pub entries : (i : ℕ) → i < getD counts v 0 → i < w → getD labels (v * w + i) 0 ≡ getD labels' (v * w + i) 0
+
+row-same : (w : ℕ) (labels counts labels' counts' : List ℕ) (v : ℕ) → length labels ≡ length labels'
+    → SameRow w labels counts labels' counts' v → getD counts v 0 ≤ w → rowAt w labels counts v ≡ rowAt w labels' counts' v
+unfolding rowAt part
+row-same w labels counts labels' counts' v e same h =
+    let c : ℕ = getD counts v 0 in
+    let d : ℕ = getD counts' v 0 in
+    let long : length (take c (drop (v * w) labels)) ≡ length (take d (drop (v * w) labels')) =
+    simp (length-take, length-drop, e, same .count) in
+    ext-getD 0 (take c (drop (v * w) labels)) (take d (drop (v * w) labels')) long
+    (λ i k.
+    let l : i < c = omega (arith, length-take c (drop (v * w) labels)) in
+    getD-part w labels v c i l
+    ∙ same .entries i l (omega arith)
+    ∙ sym (getD-part w labels' v d i (omega (arith, same .count))))
+
+sound-same : (bound n w : ℕ) (labels counts labels' counts' : List ℕ) (v : ℕ) → length labels ≡ length labels'
+    → SameRow w labels counts labels' counts' v → soundRow bound n w labels counts v ≡ soundRow bound n w labels' counts' v
+unfolding soundRow
+sound-same bound n w labels counts labels' counts' v e same =
+    lt-or-ge w (getD counts v 0)
+    (λ h.
+    count-unsound bound n w labels counts v h ∙ sym (count-unsound bound n w labels' counts' v (omega (arith, same .count))))
+    (λ h.
+    let row : rowAt w labels counts v ≡ rowAt w labels' counts' v = row-same w labels counts labels' counts' v e same h in
+    λ i. leb (same .count i) w && not (some (faultyEntry bound n (row i)) 0 (same .count i)))
+
+tests-same : (n w : ℕ) (labels counts labels' counts' : List ℕ) (s t : ℕ) → length labels ≡ length labels'
+    → length counts ≡ length counts' → SameRow w labels counts labels' counts' s → SameRow w labels counts labels' counts' t
+    → pairTests n w labels counts s t ≡ pairTests n w labels' counts' s t
+unfolding pairTests roomTests roomsFit rowTest
+tests-same n w labels counts labels' counts' s t e f first second =
+    let p = sound-same n n w labels counts labels' counts' s e first in
+    let q = sound-same n n w labels counts labels' counts' t e second in
+    λ i.
+    (test (sizesFit n w) 1 0 then test (eqb (e i) (n * w) && eqb (f i) n) 2 0)
+    then frameTest n s 0
+    then frameTest n t 1
+    then test (p i) 9 s
+    then test (q i) 9 t
+
+pub pair-depends : (n w : ℕ) (labels counts labels' counts' : List ℕ) (s t : ℕ) → length labels ≡ length labels'
+    → length counts ≡ length counts' → SameRow w labels counts labels' counts' s → SameRow w labels counts labels' counts' t
+    → pairOf n w labels counts s t ≡ pairOf n w labels' counts' s t
+pair-depends n w labels counts labels' counts' s t e f first second =
+    let same = tests-same n w labels counts labels' counts' s t e f first second in
+    vcase (pairTests n w labels counts s t)
+    (λ fine.
+    let asked = pair-asked n w labels counts s t fine in
+    let p = row-same w labels counts labels' counts' s e first (row-sound n n w labels counts s (asked .first-sound) .0) in
+    let q = row-same w labels counts labels' counts' t e second (row-sound n n w labels counts t (asked .second-sound) .0) in
+    answer-fine n w labels counts s t fine refl
+    ∙ sym (answer-fine n w labels' counts' s t (sym same ∙ fine) (λ i. meetingOf (p i) (q i))))
+    (λ r refused.
+    answer-refused n w labels counts s t refused ∙ sym (answer-refused n w labels' counts' s t (sym same ∙ refused)))
+
+-- ---- the paper's numbers tell
+
+-- a refusal has a number of its own
+unfoldable pub Named : Answer → Type 0
+Named (answers.Joins j) = Unit {0}
+Named answers.None = Unit {0}
+Named (answers.Refused r) = 1 ≤ r .number
+
+-- answers with the same numbers are the same
+pub told-apart : (a b : Answer) → Named a → Named b → told a ≡ told b → a ≡ b
+unfolding told Named
+told-apart (answers.Joins j) (answers.Joins k) p q e = ap (λ (x : Told). answers.Joins (x .joins)) e
+told-apart (answers.Joins j) answers.None p q e = not-both refl (ap (λ (x : Told). x .found) e)
+told-apart (answers.Joins j) (answers.Refused r) p q e = not-both refl (ap (λ (x : Told). x .found) e)
+told-apart answers.None (answers.Joins k) p q e = not-both refl (ap (λ (x : Told). x .found) (sym e))
+told-apart answers.None answers.None p q e = refl
+told-apart answers.None (answers.Refused r) p q e = absurd (omega (arith, ap (λ (x : Told). x .number) e))
+told-apart (answers.Refused r) (answers.Joins k) p q e = not-both refl (ap (λ (x : Told). x .found) (sym e))
+told-apart (answers.Refused r) answers.None p q e = absurd (omega (arith, ap (λ (x : Told). x .number) e))
+told-apart (answers.Refused r) (answers.Refused s) p q e =
+    λ i. answers.Refused record { number = e i .number; place = e i .place }
+
+-- the same of a verdict
+unfoldable pub NamedVerdict : Verdict → Type 0
+NamedVerdict Fine = Unit {0}
+NamedVerdict (Refused r) = 1 ≤ r .number
+
+pub named-test : (b : Bool) (number place : ℕ) → 1 ≤ number → NamedVerdict (test b number place)
+unfolding NamedVerdict test
+named-test true number place h = tt
+named-test false number place h = h
+
+pub named-then : (v next : Verdict) → NamedVerdict v → NamedVerdict next → NamedVerdict (v then next)
+unfolding NamedVerdict _then_
+named-then Fine next p q = q
+named-then (Refused r) next p q = p
+
+named-answered : (v : Verdict) (best : Best) → NamedVerdict v → Named (answered v best)
+unfolding NamedVerdict Named answered
+named-answered Fine Nowhere p = tt
+named-answered Fine (Meet m) p = tt
+named-answered (Refused r) best p = p
+
+-- every answer of the pair question is so named
+pub pair-named : (n w : ℕ) (labels counts : List ℕ) (s t : ℕ) → Named (pairOf n w labels counts s t)
+unfolding pairOf pairTests roomTests frameTest rowTest
+pair-named n w labels counts s t =
+    let one : 1 ≤ 1 = omega arith in
+    let two : 1 ≤ 2 = omega arith in
+    let eight : 1 ≤ 8 = omega arith in
+    let nine : 1 ≤ 9 = omega arith in
+    named-answered (pairTests n w labels counts s t) _
+    (named-then (roomTests n w labels counts) _
+    (named-then (test (sizesFit n w) 1 0) _ (named-test _ 1 0 one) (named-test _ 2 0 two))
+    (named-then (frameTest n s 0) _ (named-test _ 8 0 eight)
+    (named-then (frameTest n t 1) _ (named-test _ 8 1 eight)
+    (named-then (rowTest n n w labels counts s) _ (named-test _ 9 s nine) (named-test _ 9 t nine)))))

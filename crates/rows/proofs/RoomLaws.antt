@@ -1,0 +1,152 @@
+-- The laws of the tests on a label room and a count room: what they let through, and what each refuses.
+use Prim.Native.Nat.{ℕ, _+_, _*_, _≤_, _<_}
+use mathlib.Core.Path.{_≡_, refl, sym, ap, _∙_}
+use mathlib.Core.Bool.{Bool, true, false, not, _&&_}
+use mathlib.Core.List.{List}
+use native.Mathlib.Omega.{arith}
+use borrow.Author.Tests.{leb-true, le-leb, lt-leb, eqb-true, eq-eqb, ne-eqb, ltb-true, lt-ltb, le-ltb}
+use lib.ListN.{length, getD}
+use lib.Dec.{leb, ltb, eqb}
+use Rattle.basics.specs.Places.{first, some}
+use Rattle.basics.proofs.Laws.{bcase, both-true, both, of-not-false, not-of-true, first-before, first-none}
+use Rattle.refusal.specs.Tests.{test, _then_, refusal}
+use Rattle.refusal.specs.declared.Refusal.{Refusal}
+use Rattle.refusal.specs.declared.Verdict.{Verdict}
+use Rattle.refusal.specs.declared.Verdict.the-variants.{Fine, Refused}
+use Rattle.refusal.proofs.Laws.{test-fine, test-refused, test-held, then-fine, after-fine, after-refused}
+use Rattle.rows.specs.Rooms.{Rooms, sizesFit, roomsFit, roomTests, rowsTest, checkRows, part, partOf, rowAt, soundRow, faultyEntry}
+use Rattle.rows.proofs.Laws.{part-in-room, length-part}
+
+sizes-fit : {n w : ℕ} → 1 ≤ n → n ≤ 4096 → 1 ≤ w → w ≤ 256 → sizesFit n w ≡ true
+unfolding sizesFit
+sizes-fit {n} {w} a b p q =
+    both _ _ (both _ _ (both _ _ (le-leb 1 n a) (le-leb n 4096 b)) (le-leb 1 w p)) (le-leb w 256 q)
+
+fit-sizes : (n w : ℕ) → sizesFit n w ≡ true → (1 ≤ n) × (n ≤ 4096) × (1 ≤ w) × (w ≤ 256)
+unfolding sizesFit
+fit-sizes n w e =
+    let p : (leb 1 n && leb n 4096 && leb 1 w ≡ true) × (leb w 256 ≡ true) = both-true _ _ e in
+    let q : (leb 1 n && leb n 4096 ≡ true) × (leb 1 w ≡ true) = both-true _ _ (p .0) in
+    let r : (leb 1 n ≡ true) × (leb n 4096 ≡ true) = both-true _ _ (q .0) in
+    (leb-true 1 n (r .0), leb-true n 4096 (r .1), leb-true 1 w (q .1), leb-true w 256 (p .1))
+
+rooms-fit : (n w : ℕ) (labels counts : List ℕ) → length labels ≡ n * w → length counts ≡ n → roomsFit n w labels counts ≡ true
+unfolding roomsFit
+rooms-fit n w labels counts a b = both _ _ (eq-eqb (length labels) (n * w) a) (eq-eqb (length counts) n b)
+
+fit-rooms : (n w : ℕ) (labels counts : List ℕ) → roomsFit n w labels counts ≡ true → (length labels ≡ n * w) × (length counts ≡ n)
+unfolding roomsFit
+fit-rooms n w labels counts e =
+    let p : (eqb (length labels) (n * w) ≡ true) × (eqb (length counts) n ≡ true) = both-true _ _ e in
+    (eqb-true (length labels) (n * w) (p .0), eqb-true (length counts) n (p .1))
+
+-- 1: a size out of range
+pub size-refused : (n w : ℕ) (labels counts : List ℕ) → (1 ≤ n → n ≤ 4096 → 1 ≤ w → w ≤ 256 → ⊥)
+    → roomTests n w labels counts ≡ Refused (refusal 1 0)
+unfolding roomTests
+size-refused n w labels counts never =
+    bcase (sizesFit n w)
+    (λ t.
+    let p : (1 ≤ n) × (n ≤ 4096) × (1 ≤ w) × (w ≤ 256) = fit-sizes n w t in
+    absurd (never (p .0) (p .1) (p .2) (p .3)))
+    (λ f. after-refused _ (test-refused 1 0 f))
+
+-- 2: a room of another length
+pub length-refused : (n w : ℕ) (labels counts : List ℕ) → 1 ≤ n → n ≤ 4096 → 1 ≤ w → w ≤ 256
+    → (length labels ≡ n * w → length counts ≡ n → ⊥) → roomTests n w labels counts ≡ Refused (refusal 2 0)
+unfolding roomTests
+length-refused n w labels counts a b p q never =
+    after-fine _ (test-fine 1 0 (sizes-fit a b p q))
+    ∙ bcase (roomsFit n w labels counts)
+    (λ t.
+    let r : (length labels ≡ n * w) × (length counts ≡ n) = fit-rooms n w labels counts t in
+    absurd (never (r .0) (r .1)))
+    (λ f. test-refused 2 0 f)
+
+-- both tests let exactly such rooms through
+pub rooms-fine : {n w : ℕ} {labels counts : List ℕ} → Rooms n w labels counts → roomTests n w labels counts ≡ Fine
+unfolding roomTests
+rooms-fine {n} {w} {labels} {counts} r =
+    after-fine _ (test-fine 1 0 (sizes-fit (r .some-frames) (r .frames) (r .some-width) (r .width)))
+    ∙ test-fine 2 0 (rooms-fit n w labels counts (r .places) (r .each))
+
+pub fine-rooms : (n w : ℕ) (labels counts : List ℕ) → roomTests n w labels counts ≡ Fine → Rooms n w labels counts
+unfolding roomTests
+fine-rooms n w labels counts e =
+    let both : (test (sizesFit n w) 1 0 ≡ Fine) × (test (roomsFit n w labels counts) 2 0 ≡ Fine) = then-fine _ _ e in
+    let p : (1 ≤ n) × (n ≤ 4096) × (1 ≤ w) × (w ≤ 256) = fit-sizes n w (test-held _ 1 0 (both .0)) in
+    let r : (length labels ≡ n * w) × (length counts ≡ n) = fit-rooms n w labels counts (test-held _ 2 0 (both .1)) in
+    record {
+      some-frames = p .0;
+      frames = p .1;
+      some-width = p .2;
+      width = p .3;
+      places = r .0;
+      each = r .1;
+    }
+
+-- for a caller that made the first two tests itself, the test of all rows is the third alone
+pub rows-alone : (bound n w : ℕ) (labels counts : List ℕ) → Rooms n w labels counts
+    → checkRows bound n w labels counts ≡ rowsTest bound n w labels counts
+unfolding checkRows
+rows-alone bound n w labels counts r = after-fine _ (rooms-fine r)
+
+-- 9 for all rows: the first that is not sound, if there is one
+pub rows-fine : (bound n w : ℕ) (labels counts : List ℕ) → first (λ u. not (soundRow bound n w labels counts u)) 0 n ≡ n
+    → rowsTest bound n w labels counts ≡ Fine
+unfolding rowsTest
+rows-fine bound n w labels counts e = test-fine 9 _ (eq-eqb _ _ e)
+
+pub rows-refused : (bound n w : ℕ) (labels counts : List ℕ) {v : ℕ}
+    → v ≡ first (λ u. not (soundRow bound n w labels counts u)) 0 n → (v ≡ n → ⊥)
+    → rowsTest bound n w labels counts ≡ Refused (refusal 9 v)
+unfolding rowsTest
+rows-refused bound n w labels counts {v} e h =
+    test-refused 9 _ (ne-eqb _ n (λ p. h (e ∙ p))) ∙ ap (λ (u : ℕ). Refused (refusal 9 u)) (sym e)
+
+-- 1 or 2 for all rows
+pub rooms-refused : (bound n w : ℕ) (labels counts : List ℕ) {r : Refusal} → roomTests n w labels counts ≡ Refused r
+    → checkRows bound n w labels counts ≡ Refused r
+unfolding checkRows
+rooms-refused bound n w labels counts e = after-refused _ e
+
+-- the used part of a row of such rooms
+module _ {n w : ℕ} {labels counts : List ℕ} (r : Rooms n w labels counts) (v : ℕ) (h : v < n) (k : getD counts v 0 ≤ w) where
+  pub part-is-row : partOf w labels v (getD counts v 0) ≡ rowAt w labels counts v
+  unfolding rowAt
+  part-is-row = part-in-room w labels v (getD counts v 0) h (r .frames) (r .width) k (r .places)
+
+  pub length-row : length (rowAt w labels counts v) ≡ getD counts v 0
+  unfolding rowAt
+  length-row = length-part w labels v (getD counts v 0) h k (r .places)
+
+  pub sound-by-part : (bound : ℕ)
+      → soundRow bound n w labels counts v
+      ≡ not
+      (some (faultyEntry bound n (partOf w labels v (getD counts v 0))) 0 (length (partOf w labels v (getD counts v 0))))
+  unfolding soundRow
+  sound-by-part bound = rw (part-is-row, length-row, le-leb (getD counts v 0) w k) refl
+
+-- 9: a count over W
+pub count-unsound : (bound n w : ℕ) (labels counts : List ℕ) (v : ℕ) → w < getD counts v 0
+    → soundRow bound n w labels counts v ≡ false
+unfolding soundRow
+count-unsound bound n w labels counts v h = rw (lt-leb (getD counts v 0) w h) refl
+
+-- what the test of all rows lets through
+pub rows-sound : (bound n w : ℕ) (labels counts : List ℕ) → checkRows bound n w labels counts ≡ Fine
+    → Rooms n w labels counts × ((v : ℕ) → v < n → soundRow bound n w labels counts v ≡ true)
+unfolding checkRows rowsTest
+rows-sound bound n w labels counts e =
+    let unsound : ℕ → Bool = λ u. not (soundRow bound n w labels counts u) in
+    let both = then-fine (roomTests n w labels counts) _ e in
+    let all : first unsound 0 n ≡ n = eqb-true (first unsound 0 n) n (test-held _ 9 _ (both .1)) in
+    (fine-rooms n w labels counts (both .0), λ v h. of-not-false _ (first-before unsound 0 n v (omega arith) (omega arith)))
+
+-- and what it asks
+pub sound-rows : (bound n w : ℕ) (labels counts : List ℕ) → Rooms n w labels counts
+    → ((v : ℕ) → v < n → soundRow bound n w labels counts v ≡ true) → checkRows bound n w labels counts ≡ Fine
+sound-rows bound n w labels counts r sound =
+    let unsound : ℕ → Bool = λ u. not (soundRow bound n w labels counts u) in
+    let all : first unsound 0 n ≡ 0 + n = first-none unsound 0 n (λ v h k. not-of-true (sound v (omega arith))) in
+    rows-alone bound n w labels counts r ∙ rows-fine bound n w labels counts (omega arith)

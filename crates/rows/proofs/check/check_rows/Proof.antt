@@ -1,0 +1,56 @@
+-- The rooms' refusal stands; behind it the lowest unsound frame decides.
+use Prim.Native.Nat.{ℕ}
+use mathlib.Core.Path.{_≡_, refl, sym, _∙_}
+use borrow.Author.Needs.{needs}
+use denote.Ref.{now}
+use Rattle.rows.specs.Rooms.{Rooms}
+use Rattle.rows.proofs.RoomLaws.{fine-rooms, rooms-refused, rows-alone, rows-fine, rows-refused}
+use Rattle.rows.proofs.check.check_rows.Statement.{statement}
+use Rattle.rows.proofs.check.check_rows.Tie as tie
+
+check-rooms-requires : tie.Need-check-rooms-requires
+check-rooms-requires c κs = search needs
+
+enum-told : tie.Need-enum-told
+enum-told c = search needs
+
+enum-told-2 : tie.Need-enum-told-2
+enum-told-2 c = search needs
+
+-- the rooms, once they are found fine
+rooms : (c : tie.After-enum-told)
+    → Rooms (c .before .before .before .before .before .args .n) (c .before .before .before .before .before .args .w)
+    (now (c .before .before .before .before .before .args .labels)) (now (c .before .before .before .before .before .args .counts))
+rooms c = fine-rooms _ _ _ _ (sym (c .before .before .check-rooms .ensures) ∙ c .enum-told .given .1)
+
+returns : tie.Need-returns
+returns c =
+    let a = c .before .before .before .before .before .args in
+    let e = c .enum-told2 .given .1 in
+    e
+    ∙ sym
+    (rooms-refused (a .bound) (a .n) (a .w) (now (a .labels)) (now (a .counts))
+    (sym (c .before .before .check-rooms .ensures) ∙ e))
+
+first-unsound-requires : tie.Need-first-unsound-requires
+first-unsound-requires c κs = rooms c
+
+returns-2 : tie.Need-returns-2
+returns-2 c =
+    let a = c .before .before .before .before .before .before .before .args in
+    sym
+    (rows-alone (a .bound) (a .n) (a .w) (now (a .labels)) (now (a .counts)) (rooms (c .before .before))
+    ∙ rows-fine (a .bound) (a .n) (a .w) (now (a .labels)) (now (a .counts))
+    (sym (c .before .first-unsound .ensures) ∙ c .if1 .taken))
+
+returns-3 : tie.Need-returns-3
+returns-3 c =
+    let a = c .before .before .before .before .before .before .before .args in
+    sym
+    (rows-alone (a .bound) (a .n) (a .w) (now (a .labels)) (now (a .counts)) (rooms (c .before .before))
+    ∙ rows-refused (a .bound) (a .n) (a .w) (now (a .labels)) (now (a .counts)) (c .before .first-unsound .ensures) (c .if1 .left))
+
+pub check-rows-spec : {M : Type 1} → statement M
+check-rows-spec =
+    tie.close
+    (tie.spec check-rooms-requires enum-told enum-told-2 returns first-unsound-requires returns-2 returns-3)

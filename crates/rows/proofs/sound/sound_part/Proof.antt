@@ -1,0 +1,129 @@
+-- The loop's invariant: no entry before `at` is faulty, and `floor` is one more than the rank before `at`, 0 at the
+-- start. An entry that passes the three tests is not faulty, one that fails any of them is. What is left of the row shrinks.
+use Prim.Native.Nat.{ℕ, zero, suc, _+_, _-_, _*_, _≤_, _<_}
+use mathlib.Core.Path.{_≡_, refl, sym, ap, _∙_}
+use mathlib.Core.Bool.{Bool, true, false, not}
+use mathlib.Core.List.{List}
+use native.Mathlib.Decide.{ℕ-discrete}
+use native.Mathlib.Nat.{add-sub-cancel}
+use native.Mathlib.Omega.{arith}
+use borrow.Author.Count.{below-more}
+use borrow.Author.Needs.{needs}
+use lib.ListN.{length, getD}
+use denote.Ref.{now}
+use Rattle.basics.specs.Places.{some}
+use Rattle.basics.proofs.Laws.{by-cases, some-one, some-none, not-of-true, not-of-false}
+use Rattle.rows.specs.Entry.{rankOf, joinsOf}
+use Rattle.rows.specs.Rooms.{faultyEntry}
+use Rattle.rows.proofs.Laws.{faultless, faulty-rank, faulty-joins, faulty-rise}
+use Rattle.rows.proofs.sound.sound_part.Statement.{statement}
+use Rattle.rows.proofs.sound.sound_part.Tie as tie
+
+abbrev Inv-loop : tie.InvT-loop
+Inv-loop bound n row floor₀ at₀ floor at =
+    (at ≤ length row)
+    × ((i : ℕ) → i < at → faultyEntry bound n row i ≡ false)
+    × (at ≡ 0 → floor ≡ 0)
+    × (0 < at → floor ≡ rankOf (getD row (at - 1) 0) + 1)
+
+abbrev μ-loop : tie.MeasureT-loop
+μ-loop bound n row floor₀ at₀ floor at = length row - at
+
+-- one faulty entry and the row is not sound
+refused : (bound n : ℕ) (row : List ℕ) (i : ℕ) → i < length row → faultyEntry bound n row i ≡ true
+    → false ≡ not (some (faultyEntry bound n row) 0 (length row))
+refused bound n row i h e = sym (not-of-true (some-one (faultyEntry bound n row) 0 (length row) i (omega arith) (omega arith) e))
+
+loop-holds : tie.Need-loop-holds Inv-loop μ-loop
+loop-holds c = (omega arith, (λ i h. absurd (omega arith)), (λ e. refl), (λ h. absurd (omega arith)))
+
+mul-e : tie.Need-mul-e Inv-loop μ-loop
+mul-e c = search needs
+
+shared-slice-read-e : tie.Need-shared-slice-read-e Inv-loop μ-loop
+shared-slice-read-e c = search needs
+
+rank-of-requires : tie.Need-rank-of-requires Inv-loop μ-loop
+rank-of-requires c κs = search needs
+
+joins-of-requires : tie.Need-joins-of-requires Inv-loop μ-loop
+joins-of-requires c κs = search needs
+
+returns : tie.Need-returns Inv-loop μ-loop
+returns c =
+    let a = c .before .before .before .before .before .before .before .args in
+    let l = c .before .before .before .before .before .loop in
+    let rank = c .before .before .rank-of .ensures in
+    by-cases (ℕ-discrete (l .at) 0)
+    (λ (e : l .at ≡ 0). absurd (omega (arith, l .inv .2 e)))
+    (λ e.
+    refused (a .bound) (a .n) (now (a .row)) (l .at) (omega arith)
+    (faulty-rise (a .bound) (a .n) (now (a .row)) (l .at) (omega arith) (omega (arith, l .inv .3 (omega arith), rank))))
+
+returns-2 : tie.Need-returns-2 Inv-loop μ-loop
+returns-2 c =
+    let a = c .before .before .before .before .before .before .before .before .args in
+    let l = c .before .before .before .before .before .before .loop in
+    let rank = c .before .before .before .rank-of .ensures in
+    refused (a .bound) (a .n) (now (a .row)) (l .at) (omega arith)
+    (faulty-rank (a .bound) (a .n) (now (a .row)) (l .at) (omega (arith, rank)))
+
+returns-3 : tie.Need-returns-3 Inv-loop μ-loop
+returns-3 c =
+    let a = c .before .before .before .before .before .before .before .before .before .args in
+    let l = c .before .before .before .before .before .before .before .loop in
+    let joins = c .before .before .before .joins-of .ensures in
+    refused (a .bound) (a .n) (now (a .row)) (l .at) (omega arith)
+    (faulty-joins (a .bound) (a .n) (now (a .row)) (l .at) (omega (arith, joins)))
+
+add-floor : tie.Need-add-floor Inv-loop μ-loop
+add-floor c = search needs
+
+add-at : tie.Need-add-at Inv-loop μ-loop
+add-at c = search needs
+
+loop-less : tie.Need-loop-less Inv-loop μ-loop
+loop-less c = search needs
+
+loop-again : tie.Need-loop-again Inv-loop μ-loop
+loop-again c =
+    let a = c .before .before .before .before .before .before .before .before .before .args in
+    let l = c .before .before .before .before .before .before .before .loop in
+    let rank = c .before .before .before .before .rank-of .ensures in
+    let joins = c .before .before .before .joins-of .ensures in (
+      omega arith,
+      below-more _ _ (l .inv .1)
+          (faultless (a .bound) (a .n) (now (a .row)) (l .at) (omega (arith, rank)) (omega (arith, joins))
+          (λ h. omega (arith, rank, l .inv .3 h))),
+      (λ e. absurd (omega arith)),
+      (λ h. rw add-sub-cancel (ap (λ (k : ℕ). k + 1) rank)),
+    )
+
+returns-4 : tie.Need-returns-4 Inv-loop μ-loop
+returns-4 c =
+    let a = c .before .before .before .args in
+    let l = c .before .loop in
+    sym
+    (not-of-false
+    (some-none (faultyEntry (a .bound) (a .n) (now (a .row))) 0 (length (now (a .row)))
+    (λ i h k. l .inv .1 i (omega arith))))
+
+pub sound-part-spec : {M : Type 1} → statement M
+sound-part-spec =
+    tie.close
+    (tie.spec
+    Inv-loop
+    μ-loop
+    loop-holds
+    mul-e
+    shared-slice-read-e
+    rank-of-requires
+    joins-of-requires
+    returns
+    returns-2
+    returns-3
+    add-floor
+    add-at
+    loop-less
+    loop-again
+    returns-4)

@@ -1,0 +1,54 @@
+-- A count over W is unsound; else the part handed on is the used part of the row.
+use Prim.Native.Nat.{ℕ, _≤_, _<_}
+use mathlib.Core.Path.{_≡_, refl, sym, ap, _∙_}
+use mathlib.Core.Bool.{Bool, not}
+use mathlib.Core.List.{List}
+use native.Mathlib.Omega.{arith}
+use borrow.Author.Needs.{needs}
+use lib.ListN.{length, getD}
+use denote.Ref.{now}
+use Rattle.basics.specs.Places.{some}
+use Rattle.rows.specs.Rooms.{faultyEntry}
+use Rattle.rows.proofs.RoomLaws.{count-unsound, sound-by-part}
+use Rattle.rows.proofs.sound.sound_row.Statement.{statement}
+use Rattle.rows.proofs.sound.sound_row.Tie as tie
+
+mul-count : tie.Need-mul-count
+mul-count c = search needs
+
+shared-slice-read-count : tie.Need-shared-slice-read-count
+shared-slice-read-count c = search needs
+
+cast-count : tie.Need-cast-count
+cast-count c = omega (arith, c .shared-slice-known3 .given (c .before .before .before .args .v))
+
+returns : tie.Need-returns
+returns c =
+    let a = c .before .before .before .before .args in
+    sym (count-unsound (a .bound) (a .n) (a .w) (now (a .labels)) (now (a .counts)) (a .v) (c .if1 .taken))
+
+row-part-requires : tie.Need-row-part-requires
+row-part-requires c κs = search needs
+
+sound-part-requires : tie.Need-sound-part-requires
+sound-part-requires c κs = search needs
+
+returns-2 : tie.Need-returns-2
+returns-2 c =
+    let s = c .before .before .before .before .before .before in
+    let a = s .args in
+    c .sound-part .ensures
+    ∙ ap (λ (row : List ℕ). not (some (faultyEntry (a .bound) (a .n) row) 0 (length row))) (c .before .row-part .ensures .0)
+    ∙ sym (sound-by-part (s .pre .0) (a .v) (s .pre .1) (c .before .before .if1 .left) (a .bound))
+
+pub sound-row-spec : {M : Type 1} → statement M
+sound-row-spec =
+    tie.close
+    (tie.spec
+    mul-count
+    shared-slice-read-count
+    cast-count
+    returns
+    row-part-requires
+    sound-part-requires
+    returns-2)

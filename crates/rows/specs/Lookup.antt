@@ -1,0 +1,20 @@
+-- The row lookup hands back the used part of that frame's row inside the label room; where the check refuses, it hands back
+-- the empty part at the room's front.
+use Prim.Native.Nat.{ℕ, _*_}
+use mathlib.Core.List.{List, []}
+use Rattle.refusal.specs.declared.Verdict.{Verdict}
+use Rattle.refusal.specs.declared.Verdict.the-variants.{Fine, Refused}
+use Rattle.rows.specs.Rooms.{rowAt, checkRow}
+
+-- one thing behind a fine verdict, another behind a refusal
+unfoldable pub ifFine {ℓ} : {A : Type ℓ} → Verdict → A → A → A
+ifFine Fine x y = x
+ifFine (Refused r) x y = y
+
+-- the entries handed back
+unfoldable pub rowOf : ℕ → ℕ → List ℕ → List ℕ → ℕ → List ℕ
+rowOf n w labels counts v = ifFine (checkRow n w labels counts v) (rowAt w labels counts v) []
+
+-- the place of the label room where they start
+unfoldable pub rowStart : ℕ → ℕ → List ℕ → List ℕ → ℕ → ℕ
+rowStart n w labels counts v = ifFine (checkRow n w labels counts v) (v * w) 0

@@ -1,0 +1,55 @@
+-- Spread: twice the largest joins among used entries of rank 0, or 0 if there is none.
+use Prim.Native.Nat.{ℕ, zero, suc, _*_, _<_, max}
+use mathlib.Core.Bool.{cond}
+use mathlib.Core.List.{List, [], _∷_}
+use lib.Dec.{eqb}
+use Rattle.refusal.specs.declared.Verdict.{Verdict}
+use Rattle.refusal.specs.declared.Verdict.the-variants as verdicts
+use Rattle.rows.specs.Entry.{rankOf, joinsOf}
+use Rattle.rows.specs.Pair.{RowIn}
+use Rattle.rows.specs.Rooms.{rowAt, checkRows}
+use Rattle.rows.specs.declared.spread.SpreadAnswer.{SpreadAnswer}
+use Rattle.rows.specs.declared.spread.SpreadAnswer.the-variants.{Spread, Refused}
+
+-- the largest joins among the entries of rank 0 of a row, or 0
+unfoldable pub farthestIn : List ℕ → ℕ
+farthestIn [] = 0
+farthestIn (e ∷ es) = max (cond (eqb (rankOf e) 0) (joinsOf e) 0) (farthestIn es)
+
+-- the largest joins among the used entries of rank 0 of rows 0 to k - 1, or 0
+unfoldable pub farthest : ℕ → List ℕ → List ℕ → ℕ → ℕ
+farthest w labels counts zero = 0
+farthest w labels counts (suc v) = max (farthestIn (rowAt w labels counts v)) (farthest w labels counts v)
+
+-- behind fine tests: twice the largest joins
+unfoldable pub spreadBy : Verdict → ℕ → SpreadAnswer
+spreadBy verdicts.Fine joins = Spread (2 * joins)
+spreadBy (verdicts.Refused r) joins = Refused r
+
+-- spread: 1, 2, 9 (lowest frame)
+unfoldable pub spreadOf : ℕ → ℕ → List ℕ → List ℕ → SpreadAnswer
+spreadOf n w labels counts = spreadBy (checkRows n n w labels counts) (farthest w labels counts n)
+
+-- the paper's numbers: a number, a place and the spread
+pub record SpreadTold : Type 0 where
+  pub number : ℕ
+  pub place : ℕ
+  pub spread : ℕ
+
+-- success is 0; each refusal also gives a place; any other number that the call hands back is then 0
+unfoldable pub spreadTold : SpreadAnswer → SpreadTold
+spreadTold (Spread d) = record { number = 0; place = 0; spread = d }
+spreadTold (Refused r) = record { number = r .number; place = r .place; spread = 0 }
+
+-- the same numbers from the tests and the largest joins
+unfoldable pub spreadToldBy : Verdict → ℕ → SpreadTold
+spreadToldBy verdicts.Fine joins = record { number = 0; place = 0; spread = 2 * joins }
+spreadToldBy (verdicts.Refused r) joins = record { number = r .number; place = r .place; spread = 0 }
+
+-- the paper's numbers of the spread question
+unfoldable pub spreadNumbers : ℕ → ℕ → List ℕ → List ℕ → SpreadTold
+spreadNumbers n w labels counts = spreadToldBy (checkRows n n w labels counts) (farthest w labels counts n)
+
+-- every row lies in the room with rising ranks
+pub record RowsIn (n w : ℕ) (labels counts : List ℕ) : Type 0 where
+  pub row : (v : ℕ) → v < n → RowIn w labels counts v

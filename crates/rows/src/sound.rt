@@ -1,0 +1,74 @@
+// Sound rows: count at most W, strictly rising ranks below the bound, joins below n. Each row is read once; its unused
+// places are not looked at.
+ghost use mathlib.Core.Path.{_≡_};
+ghost use mathlib.Core.Bool.{not};
+ghost use Prim.Native.Nat.{_<_, _≤_, _*_};
+ghost use lib.ListN.{length};
+ghost use Rattle.basics.specs.Places.{first, some};
+ghost use Rattle.rows.specs.Rooms.{faultyEntry, soundRow, Rooms};
+use crate::entry::Entry;
+use crate::entry::joins_of;
+use crate::entry::rank_of;
+use crate::part::row_part;
+
+// Whether no entry of a row's used part is faulty. `floor` is one more than the rank before, 0 at the first entry.
+pub fn sound_part(bound: usize, n: usize, row: &[Entry]) -> bool
+    ensures { λ r. ⌜ r ≡ not (some (faultyEntry bound n (now (row .entry))) 0 (length (now (row .entry)))) ⌝ }
+{
+    let mut floor: usize = 0;
+    let mut at: usize = 0;
+    while at < row.len() {
+        let e = row[at];
+        let rank = rank_of(e);
+        let joins = joins_of(e);
+        if rank < floor {
+            return false;
+        }
+        if bound <= rank {
+            return false;
+        }
+        if n <= joins {
+            return false;
+        }
+        floor = rank + 1;
+        at += 1;
+    }
+    true
+}
+
+// Whether row v is sound.
+pub fn sound_row(
+    bound: usize,
+    n: usize,
+    w: usize,
+    labels: &[Entry],
+    counts: &[u32],
+    v: usize,
+) -> bool
+    requires { ⌜ Rooms n w (now labels) (now counts) × (v < n) ⌝ }
+    ensures { λ r. ⌜ r ≡ soundRow bound n w (now (labels .entry)) (now (counts .entry)) v ⌝ }
+{
+    let count = counts[v] as usize;
+    if w < count {
+        return false;
+    }
+    sound_part(bound, n, row_part(labels, w, v, count))
+}
+
+// The lowest frame whose row is not sound, or n.
+pub fn first_unsound(bound: usize, n: usize, w: usize, labels: &[Entry], counts: &[u32]) -> usize
+    requires { ⌜ Rooms n w (now labels) (now counts) ⌝ }
+    ensures { λ r. ⌜
+        r ≡ first (λ v. not (soundRow bound n w (now (labels .entry)) (now (counts .entry)) v)) 0 n
+        ⌝ }
+{
+    let mut v: usize = 0;
+    while v < n {
+        if sound_row(bound, n, w, labels, counts, v) {
+            v += 1;
+        } else {
+            return v;
+        }
+    }
+    v
+}

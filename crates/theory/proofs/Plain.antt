@@ -1,0 +1,223 @@
+-- The plain index, every join counted as 1, in the paper's own words: demand 3 in fewest joins, what a row holds, and that
+-- the walks level by level make the rows of the rule.
+use Prim.Native.Nat.{ℕ, zero, suc, _+_, _*_, _≤_, _<_}
+use mathlib.Core.Path.{_≡_, refl, sym, ap, subst, _∙_}
+use mathlib.Core.Logic.{_↔_}
+use mathlib.Core.List.{List, [], _∷_, _++_}
+use native.Mathlib.Decide.{ℕ-discrete}
+use native.Mathlib.Omega.{arith}
+use lib.ListN.{length, length-append}
+use Rattle.basics.specs.Places.{least}
+use Rattle.basics.proofs.Laws.{by-cases}
+use Rattle.theory.specs.Links.{Link, Block, Order, hubOf}
+use Rattle.theory.specs.Chains.{Least, ChainOf, ThroughOf}
+use Rattle.theory.specs.Distance.{far, said}
+use Rattle.theory.specs.Rows.{Row, In, Shared, Rule, Metric, answer, hubs, keep, ruleRow, instead}
+use Rattle.theory.specs.Walk.{Met, walkRow, walks}
+use Rattle.theory.specs.Plain.{ones, joined, joinsTo, rowBy, answerBy}
+use Rattle.theory.proofs.DistLeast.{least-same}
+use Rattle.theory.proofs.DistVia.{chain-sum}
+use Rattle.theory.proofs.DistPlain.{plain-weight, chain-links, joins-is, joins-below}
+use Rattle.theory.proofs.Distance.{dist-metric}
+use Rattle.theory.proofs.Rule.{Rising, rankAt, joinsAt, place-in, row-rising, rising-length, keep-append}
+use Rattle.theory.proofs.Answer.{literal, answer-hubs, hubs-cap}
+use Rattle.theory.proofs.Levels.{oneEach}
+use Rattle.theory.proofs.WalkRule.{Steps, met-rule, walk-rule, walks-rule}
+use Rattle.theory.proofs.Penalties.{sumAnswer, dist-steps, sums-fewest, sums-never-below, sums-near, sums-true, sums-spare, sums-in-row, sums-own, sums-no-higher, sums-upto}
+
+-- ---- rows of any block, sound or not
+
+-- ranks strictly rise, below the stop
+pub plain-rising : (n : ℕ) (S L O : List ℕ) (k v : ℕ) → Rising k (rowBy n S L O k v)
+unfolding rowBy
+plain-rising n S L O k v = row-rising (far 1 n) (joinsTo n S L) (hubOf O) k v
+
+-- at most one entry for each hub
+pub plain-length : (n : ℕ) (S L O : List ℕ) (k v : ℕ) → length (rowBy n S L O k v) ≤ k
+plain-length n S L O k v = rising-length (plain-rising n S L O k v)
+
+pub row-none : (n : ℕ) (S L O : List ℕ) (v : ℕ) → rowBy n S L O zero v ≡ []
+unfolding rowBy ruleRow
+row-none n S L O v = refl
+
+-- what the row of v gains at rank r
+abbrev pub gained : ℕ → List ℕ → List ℕ → List ℕ → ℕ → ℕ → Row
+gained n S L O r v =
+    keep r (joinsTo n S L (hubOf O r) v) (hubs (far 1 n) (joinsTo n S L) (hubOf O) r (hubOf O r) v) []
+
+-- a row only grows
+pub row-grows : (n : ℕ) (S L O : List ℕ) (r v : ℕ) → rowBy n S L O (suc r) v ≡ rowBy n S L O r v ++ gained n S L O r v
+unfolding rowBy ruleRow
+row-grows n S L O r v =
+    keep-append r (joinsTo n S L (hubOf O r) v) (hubs (far 1 n) (joinsTo n S L) (hubOf O) r (hubOf O r) v) (rowBy n S L O r v)
+
+pub row-longer : (n : ℕ) (S L O : List ℕ) (r k v : ℕ) → r ≤ k → length (rowBy n S L O r v) ≤ length (rowBy n S L O k v)
+row-longer n S L O r zero v h =
+    let e : r ≡ zero = omega arith in
+    omega (arith, ap (λ (z : ℕ). length (rowBy n S L O z v)) e)
+row-longer n S L O r (suc k) v h =
+    by-cases (ℕ-discrete r (suc k))
+    (λ (e : r ≡ suc k). omega (arith, ap (λ (z : ℕ). length (rowBy n S L O z v)) e))
+    (λ e.
+    omega (
+      arith,
+      row-longer n S L O r k v (omega arith),
+      ap length (row-grows n S L O k v),
+      length-append (rowBy n S L O k v) (gained n S L O k v),
+    ))
+
+-- there are fewer frames than infinity
+pub far-room : (n : ℕ) → n < far 1 n
+unfolding far
+far-room n = omega arith
+
+-- any two rows with ranks and joins below n: the answer is the least sum of joins over ranks found in both, none if no
+-- rank is shared
+pub plain-literal : (n : ℕ) (x y : Row) → ((r m : ℕ) → In r m x → (r < n) × (m < n)) → ((r m : ℕ) → In r m y → m < n)
+    → Least (Shared x y) (said (far 1 n) (answer (far 1 n) n x y))
+unfolding far
+plain-literal n x y first second =
+    literal (far 1 n) n x y (λ r m z. first r m z .0)
+    (λ m s.
+    omega
+    (arith, first (s .rank) (s .first) (s .in-first) .1, second (s .rank) (s .second) (s .in-second), s .whole))
+
+module _ {n : ℕ} {S L : List ℕ} (block : Block n 1 S L ones) where
+  pub plain-metric : Metric (far 1 n) n (joinsTo n S L)
+  unfolding joinsTo
+  plain-metric = dist-metric block
+
+  pub plain-steps : Steps (far 1 n) n (oneEach (far 1 n) (joined S L)) (joinsTo n S L)
+  unfolding joinsTo
+  plain-steps =
+      record {
+        cost = λ u v p q. omega (arith, plain-weight n S L u v, dist-steps block .cost u v p q);
+        on = λ a u v p q f. omega (arith, plain-weight n S L u v, dist-steps block .on a u v p q f);
+        last = λ a v p q e g.
+            let (u, f, up) = dist-steps block .last a v p q e g in
+            (u, f, omega (arith, plain-weight n S L u v));
+      }
+
+  module _ {O : List ℕ} (order : Order n O) where
+    -- ---- demand 3
+
+    -- the answer is the fewest joins of a chain through one of the first k hubs, none exactly if there is no such chain
+    pub plain-fewest : (k s t : ℕ) → k ≤ n → s < n → t < n
+        → Least (ThroughOf (Link S L ones) (hubOf O) k s t) (said (far 1 n) (answerBy n S L O k s t))
+    unfolding rowBy joinsTo
+    plain-fewest k s t l p q =
+        least-same (said (far 1 n) (sumAnswer 1 n S L ones O k s t))
+        (λ j c.
+        record {
+          rank = c .rank;
+          used = c .used;
+          there = c .there;
+          on = c .on;
+          to-hub = record { sum = c .there; chain = c .to-hub; long = sym (chain-links (c .to-hub)) };
+          from-hub = record { sum = c .on; chain = c .from-hub; long = sym (chain-links (c .from-hub)) };
+          whole = c .whole;
+        })
+        (λ j c.
+        record {
+          rank = c .rank;
+          used = c .used;
+          there = c .there;
+          on = c .on;
+          to-hub = chain-sum (sym (chain-links (c .to-hub .chain) ∙ c .to-hub .long)) (c .to-hub .chain);
+          from-hub = chain-sum (sym (chain-links (c .from-hub .chain) ∙ c .from-hub .long)) (c .from-hub .chain);
+          whole = c .whole;
+        })
+        (sums-fewest block order k s t l p q)
+
+    -- never below the true count
+    pub plain-never-below : (k s t : ℕ) → k ≤ n → s < n → t < n → joinsTo n S L s t ≤ answerBy n S L O k s t
+    unfolding rowBy joinsTo
+    plain-never-below = sums-never-below block order
+
+    -- over the true count by at most twice the joins to the nearest used hub, of the first frame and of the second
+    pub plain-near : (k s t : ℕ) → k ≤ n → s < n → t < n
+        → (answerBy n S L O k s t ≤ joinsTo n S L s t + 2 * least (far 1 n) k (λ r. joinsTo n S L s (hubOf O r)))
+        × (answerBy n S L O k s t ≤ joinsTo n S L s t + 2 * least (far 1 n) k (λ r. joinsTo n S L t (hubOf O r)))
+    unfolding rowBy joinsTo
+    plain-near = sums-near block order
+
+    -- at k = n the true count of every pair, none for a pair without a chain
+    pub plain-true : (s t : ℕ) → s < n → t < n → answerBy n S L O n s t ≡ joinsTo n S L s t
+    unfolding rowBy joinsTo
+    plain-true = sums-true block order
+
+    pub plain-true-count : (s t : ℕ) → s < n → t < n
+        → Least (ChainOf (Link S L ones) s t) (said (far 1 n) (answerBy n S L O n s t))
+    plain-true-count s t p q =
+        subst (λ (z : ℕ). Least (ChainOf (Link S L ones) s t) (said (far 1 n) z)) (sym (plain-true s t p q)) (joins-is block s t p)
+
+    -- no entry is spare: without it, its hub and its frame (the same frame, it may be) are answered otherwise
+    pub plain-spare : (k v : ℕ) → k ≤ n → v < n → (xs : Row) (r m : ℕ) (ys : Row) → rowBy n S L O k v ≡ xs ++ ((r, m) ∷ ys)
+        → said (far 1 n) (answerBy n S L O k (hubOf O r) v)
+        ≡ said (far 1 n) (answer (far 1 n) n (instead (rowBy n S L O k) v (xs ++ ys) (hubOf O r)) (instead (rowBy n S L O k) v (xs ++ ys) v))
+        → ⊥
+    unfolding rowBy joinsTo
+    plain-spare = sums-spare block order
+
+    -- ---- the rows
+
+    -- a row holds exactly what the row rule says
+    pub plain-in-row : (k v : ℕ) → k ≤ n → v < n → {r m : ℕ} → In r m (rowBy n S L O k v)
+        ↔ ((r < k) × Rule (far 1 n) (joinsTo n S L) (hubOf O) r v × (m ≡ joinsTo n S L (hubOf O r) v))
+    unfolding rowBy joinsTo
+    plain-in-row k v l p = sums-in-row block order k v l p
+
+    -- every frame of rank below k has itself in its row at 0 joins
+    pub plain-own : (k r : ℕ) → k ≤ n → r < k → In r 0 (rowBy n S L O k (hubOf O r))
+    unfolding rowBy joinsTo
+    plain-own = sums-own block order
+
+    -- a row has no rank above its frame's own
+    pub plain-no-higher : (k q r m : ℕ) → k ≤ n → q < n → In r m (rowBy n S L O k (hubOf O q)) → r ≤ q
+    unfolding rowBy joinsTo
+    plain-no-higher = sums-no-higher block order
+
+    -- joins are below n
+    pub plain-joins : (k v r m : ℕ) → k ≤ n → v < n → In r m (rowBy n S L O k v) → m < n
+    unfolding rowBy joinsTo
+    plain-joins k v r m l p mem = omega (arith, sums-upto block order k v r m l p mem)
+
+    -- so at each place of a row
+    pub plain-places : (k v i : ℕ) → k ≤ n → v < n → i < length (rowBy n S L O k v)
+        → (rankAt (rowBy n S L O k v) i < k) × (joinsAt (rowBy n S L O k v) i < n)
+    plain-places k v i l p h =
+        let x : Row = rowBy n S L O k v in
+        (plain-rising n S L O k v .below i h, plain-joins k v (rankAt x i) (joinsAt x i) l p (place-in x i h))
+
+    -- an entry that the rule lets in has fewer joins than there are frames
+    pub plain-small : (r v : ℕ) → r < n → v < n
+        → joinsTo n S L (hubOf O r) v < hubs (far 1 n) (joinsTo n S L) (hubOf O) r (hubOf O r) v → joinsTo n S L (hubOf O r) v < n
+    plain-small r v g p less =
+        joins-below block (hubOf O r) v (order .inside r g) p
+        (omega (arith, hubs-cap (far 1 n) (joinsTo n S L) (hubOf O) r (hubOf O r) v))
+
+    -- ---- the walks
+
+    -- one hub's walk over rows that are the rule's at its rank
+    pub walk-out : (R : ℕ → Row) (r v : ℕ) → r < n → v < n → ((u : ℕ) → u < n → R u ≡ rowBy n S L O r u)
+        → walkRow (far 1 n) n (joined S L) R r (hubOf O r) v ≡ rowBy n S L O (suc r) v
+    unfolding rowBy
+    walk-out = walk-rule (joined S L) (hubOf O) plain-metric (order .inside) plain-steps (far-room n)
+
+    pub row-out : (r v : ℕ) → r < n → v < n
+        → walkRow (far 1 n) n (joined S L) (rowBy n S L O r) r (hubOf O r) v ≡ rowBy n S L O (suc r) v
+    row-out r v g p = walk-out (rowBy n S L O r) r v g p (λ u q. refl)
+
+    -- any finished walk does, whatever the order it was made in
+    pub met-out : (r : ℕ) → r < n → (A t : ℕ → ℕ) → ((u : ℕ) → u < n → A u ≡ answerBy n S L O r (hubOf O r) u)
+        → Met (far 1 n) n (oneEach (far 1 n) (joined S L)) A (hubOf O r) t
+        → (v : ℕ) → v < n → keep r (t v) (A v) (rowBy n S L O r v) ≡ rowBy n S L O (suc r) v
+    unfolding rowBy
+    met-out r g A t rows met =
+        met-rule (hubOf O) plain-metric (order .inside) plain-steps r g A t
+        (λ u p. rows u p ∙ answer-hubs (hubOf O) plain-metric (order .inside) r (hubOf O r) u (omega arith) (order .inside r g) p) met
+
+    -- the walks of all hubs below k, in rank order, from empty rows, make the rows of the rule
+    pub plain-walks : (k v : ℕ) → k ≤ n → v < n → walks (far 1 n) n (joined S L) (hubOf O) k v ≡ rowBy n S L O k v
+    unfolding rowBy
+    plain-walks = walks-rule (joined S L) (hubOf O) plain-metric (order .inside) plain-steps (far-room n)
