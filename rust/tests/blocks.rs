@@ -431,3 +431,75 @@ fn limits() {
     assert_eq!(rows.pair(4095, 4095), Ok(Some(8190)));
     assert_eq!(rows.spread(), Ok(8190));
 }
+
+// The paper's worked cases, through the C interface.
+#[test]
+fn by_hand() {
+    let build = |block: &Block, w: usize, k: usize, order: &[u32]| {
+        let n = block.n;
+        let (mut labels, mut counts, mut a, mut b) = (vec![9; n * w], vec![9; n], vec![9; n], vec![9; n]);
+        let built = seam::build(n, w, k, block.links(), order, &mut labels, &mut counts, (&mut a, &mut b));
+        assert!(a.iter().chain(&b).all(|&x| x == 0));
+        (built, labels, counts)
+    };
+    let entry = |rank: u32, joins: u32| rank * 65_536 + joins;
+
+    let chain = Block::of(4, &[(0, 1), (1, 2), (2, 3)]);
+    let mut order = vec![9; 4];
+    assert_eq!(seam::order_by_degree(4, chain.links(), &mut order), Ok(()));
+    assert_eq!(order, [1, 2, 0, 3]);
+    let (built, labels, counts) = build(&chain, 3, 4, &order);
+    assert_eq!(built, Ok(8));
+    assert_eq!(counts, [2, 1, 2, 3]);
+    #[rustfmt::skip]
+    assert_eq!(labels, [entry(0, 1), entry(2, 0), 0, entry(0, 0), 0, 0, entry(0, 1), entry(1, 0), 0, entry(0, 2), entry(1, 1), entry(3, 0)]);
+    let rows = Rows { n: 4, w: 3, labels: &labels, counts: &counts };
+    assert_eq!(rows.pair(0, 3), Ok(Some(3)));
+    assert_eq!(rows.spread(), Ok(4));
+    let mut out = vec![0; 39];
+    assert_eq!(rows.write(4, &order, &mut out, 0), Ok(39));
+    assert_eq!(rows.write(3, &order, &mut out, 0), Err(Refusal::Row(3)));
+    let (built, labels, counts) = build(&chain, 2, 4, &order);
+    assert_eq!(built, Err(Refusal::Room(3)));
+    assert!(labels.iter().chain(&counts).all(|&x| x == 0));
+    assert_eq!(build(&chain, 2, 3, &order).0, Ok(7));
+
+    let (built, labels, counts) = build(&chain, 3, 1, &order);
+    assert_eq!(built, Ok(4));
+    let rows = Rows { n: 4, w: 3, labels: &labels, counts: &counts };
+    assert_eq!((rows.pair(0, 0), rows.pair(2, 3)), (Ok(Some(2)), Ok(Some(3))));
+    let (_, labels, counts) = build(&chain, 3, 0, &order);
+    let rows = Rows { n: 4, w: 3, labels: &labels, counts: &counts };
+    assert!((0..16).all(|p| rows.pair(p / 4, p % 4) == Ok(None)));
+
+    let ring = Block::of(4, &[(0, 1), (1, 2), (2, 3), (3, 0)]);
+    let (built, labels, counts) = build(&ring, 3, 4, &[0, 1, 2, 3]);
+    assert_eq!(built, Ok(9));
+    let rows = Rows { n: 4, w: 3, labels: &labels, counts: &counts };
+    assert_eq!(rows.row(3), Ok(&[entry(0, 1), entry(2, 1), entry(3, 0)][..]));
+    assert_eq!(rows.pair(1, 3), Ok(Some(2)));
+
+    let three = Block::of(3, &[(0, 1)]);
+    for (k, own) in [(2, None), (3, Some(0))] {
+        let (_, labels, counts) = build(&three, 3, k, &[0, 1, 2]);
+        let rows = Rows { n: 3, w: 3, labels: &labels, counts: &counts };
+        assert_eq!(rows.pair(0, 2), Ok(None));
+        assert_eq!(rows.pair(2, 2), Ok(own));
+    }
+
+    let alone = Block::of(1, &[]);
+    for (k, file) in [(1, &[0x10, 0, 0, 0x08, 0, 0, 0x08, 0, 0, 0][..]), (0, &[0x10, 0, 0, 0, 0, 0, 0][..])] {
+        let (_, labels, counts) = build(&alone, 1, k, &[0]);
+        let rows = Rows { n: 1, w: 1, labels: &labels, counts: &counts };
+        let mut out = vec![0xFF; file.len()];
+        assert_eq!(rows.write(k, &[0], &mut out, 0), Ok(file.len()));
+        assert_eq!(out, file);
+        assert_eq!(rows.write(k, &[0], &mut out[1..], 0), Err(Refusal::Out));
+    }
+
+    // An unsorted list that holds the frame asked for: the fault is the unsorted list's.
+    let unsorted = Links { starts: &[0, 1, 3, 6, 7, 8], places: &[1, 0, 2, 4, 3, 1, 2, 2] };
+    assert_eq!(seam::check_links(5, unsorted), Err(Refusal::Links(2)));
+    assert_eq!(seam::check_links(1, Links { starts: &[0, 1], places: &[0] }), Err(Refusal::Links(0)));
+    assert_eq!(seam::read(&[], 3, &mut [], &mut [], &mut []), Err(Refusal::Short(0)));
+}
