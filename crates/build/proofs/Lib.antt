@@ -11,3 +11,9 @@ pub mod DropWithin
 pub mod DropRow
 pub mod RoomLaws
 pub mod RoomMarks
+pub mod RoomWalk
+pub mod RunLaws
+pub mod RunStops
+pub mod RunState
+pub mod BuildTests
+pub mod BuildOut

@@ -15,19 +15,10 @@ use Rattle.basics.proofs.Laws.{by-cases, three-ways, at-set, is-table, length-t
 use Rattle.theory.specs.Rows.{Row}
 use Rattle.rows.specs.Entry.{entryOf, rankOf, joinsOf, encode, decode}
 use Rattle.rows.specs.Rooms.{rowAt, part}
+use Rattle.rows.proofs.Laws.{length-encode, encode-append}
 use Rattle.build.specs.Build.{labelsOf, countsOf}
 
 -- ---- entries of a row
-
-pub length-encode : (x : Row) → length (encode x) ≡ length x
-unfolding encode
-length-encode [] = refl
-length-encode (a ∷ x) = ap suc (length-encode x)
-
-pub encode-append : (x y : Row) → encode (x ++ y) ≡ encode x ++ encode y
-unfolding encode
-encode-append [] y = refl
-encode-append (a ∷ x) y = ap (λ (l : List ℕ). entryOf (a .0) (a .1) ∷ l) (encode-append x y)
 
 encode-snoc : (x : Row) (a : ℕ × ℕ) → encode (x ++ (a ∷ [])) ≡ encode x ++ (entryOf (a .0) (a .1) ∷ [])
 unfolding encode
@@ -132,19 +123,25 @@ module _ (n w : ℕ) (R R′ : ℕ → Row) (v : ℕ) (a : ℕ × ℕ) (inside :
 -- ---- a row read back
 
 -- the used part of row v holds the entries of v's row
+module _ (n w : ℕ) (R : ℕ → Row) (v c : ℕ) (h : v < n) (fits : c ≤ w) (is : length (R v) ≡ c) where
+  long : length (take c (drop (v * w) (labelsOf n w R))) ≡ c
+  long =
+      length-take c (drop (v * w) (labelsOf n w R))
+      ∙ omega (arith, length-drop (v * w) (labelsOf n w R), length-labels n w R, suc-mul v w, mul-le-mul-right w h)
+
+  entry-is : (i : ℕ) → i < c → getD (take c (drop (v * w) (labelsOf n w R))) i 0 ≡ getD (encode (R v)) i 0
+  entry-is i low =
+      let here : i < w = omega arith in
+      getD-take c (drop (v * w) (labelsOf n w R)) i 0 low
+      ∙ getD-drop (v * w) (labelsOf n w R) i 0
+      ∙ label-at n w R (v * w + i) (row-place h here)
+      ∙ rw (digits-div v here, digits-mod v here)
+
+  part-is : take c (drop (v * w) (labelsOf n w R)) ≡ encode (R v)
+  part-is =
+      ext-getD 0 (take c (drop (v * w) (labelsOf n w R))) (encode (R v)) (long ∙ sym is ∙ sym (length-encode (R v)))
+      (λ i l. entry-is i (omega (arith, long)))
+
 pub row-is : (n w : ℕ) (R : ℕ → Row) (v : ℕ) → v < n → length (R v) ≤ w → rowAt w (labelsOf n w R) (countsOf n R) v ≡ encode (R v)
 unfolding rowAt part
-row-is n w R v h fits =
-    let c : ℕ = length (R v) in
-    let long : length (take c (drop (v * w) (labelsOf n w R))) ≡ c =
-    length-take c (drop (v * w) (labelsOf n w R))
-    ∙ omega (arith, length-drop (v * w) (labelsOf n w R), length-labels n w R, suc-mul v w, mul-le-mul-right w h) in
-    rw (count-at n R v h)
-    (ext-getD 0 (take c (drop (v * w) (labelsOf n w R))) (encode (R v)) (long ∙ sym (length-encode (R v)))
-    (λ i l.
-    let low : i < c = omega arith in
-    let here : i < w = omega arith in
-    getD-take c (drop (v * w) (labelsOf n w R)) i 0 low
-    ∙ getD-drop (v * w) (labelsOf n w R) i 0
-    ∙ label-at n w R (v * w + i) (row-place h here)
-    ∙ rw (digits-div v here, digits-mod v here)))
+row-is n w R v h fits = rw (count-at n R v h) (part-is n w R v (length (R v)) h fits refl)

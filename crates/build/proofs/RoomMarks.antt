@@ -15,7 +15,7 @@ use Rattle.theory.specs.Rows.{Row}
 use Rattle.rows.specs.Entry.{entryOf}
 use Rattle.build.specs.Build.{labelsOf, countsOf}
 use Rattle.build.specs.Explore.{Queued}
-use Rattle.build.specs.Settle.{rowsIn, Laid, isKept, lacksRoom, isFar, fitsAll, nearAll, gain, rowsAfter, SettleIn, settleOf}
+use Rattle.build.specs.Settle.{rowsIn, Laid, isKept, lacksRoom, isFar, fitsAll, noneFar, gain, rowsAfter, SettleIn, settleOf}
 use Rattle.build.specs.declared.settle.Walked.the-variants.{Made, Full, Far}
 use Rattle.build.proofs.RoomLaws.{labels-gain, counts-gain, labels-ext, counts-ext, count-at}
 
@@ -86,16 +86,16 @@ fits-each w counts met v e h =
     (of-not-true (some (λ u. lacksRoom w (getD counts u 0) (getD met u 0)) 0 (length met)) e) (omega arith) (omega arith)
 
 module _ (met queue : List ℕ) (tail : ℕ) (q : Queued met queue tail) where
-  pub near-done : ((j : ℕ) → j < tail → isFar (getD met (getD queue j 0) 0) ≡ false) → nearAll met ≡ true
-  unfolding nearAll isFar
-  near-done none =
+  pub far-done : ((j : ℕ) → j < tail → isFar (getD met (getD queue j 0) 0) ≡ false) → noneFar met ≡ true
+  unfolding noneFar isFar
+  far-done none =
       not-of-false
       (none-bad met queue tail q (λ v. isKept (getD met v 0) && ltb 4096 (getD met v 0))
       (λ v e. both-true (isKept (getD met v 0)) (ltb 4096 (getD met v 0)) e .0) none)
 
-  pub near-not : (j : ℕ) → j < tail → isFar (getD met (getD queue j 0) 0) ≡ true → nearAll met ≡ false
-  unfolding nearAll
-  near-not j h e = not-of-true (one-bad met queue tail q (λ v. isFar (getD met v 0)) j h e)
+  pub far-not : (j : ℕ) → j < tail → isFar (getD met (getD queue j 0) 0) ≡ true → noneFar met ≡ false
+  unfolding noneFar
+  far-not j h e = not-of-true (one-bad met queue tail q (λ v. isFar (getD met v 0)) j h e)
 
 -- ---- rows stored along the queue
 
@@ -165,7 +165,7 @@ module _ (w rank : ℕ) (labels counts met : List ℕ) where
   unfolding rowsAfter gain
   after-not v e = cond-false _ _ e
 
-module _ (w rank : ℕ) (labels counts met queue : List ℕ) (tail : ℕ) (s : SettleIn w rank labels counts met queue tail)
+module _ (w rank : ℕ) (labels counts met queue : List ℕ) (tail : ℕ) (s : SettleIn w labels counts met queue tail)
     (fit : fitsAll w counts met ≡ true) where
   abbrev before : ℕ → Row
   before = rowsIn w labels counts
@@ -269,10 +269,10 @@ module _ (w : ℕ) (counts met : List ℕ) where
   unfolding settleOf
   settle-full e = cond-false _ _ e
 
-  pub settle-far : fitsAll w counts met ≡ true → nearAll met ≡ false → settleOf w counts met ≡ Far
+  pub settle-far : fitsAll w counts met ≡ true → noneFar met ≡ false → settleOf w counts met ≡ Far
   unfolding settleOf
   settle-far e f = cond-true _ _ e ∙ cond-false _ _ f
 
-  pub settle-made : fitsAll w counts met ≡ true → nearAll met ≡ true → settleOf w counts met ≡ Made
+  pub settle-made : fitsAll w counts met ≡ true → noneFar met ≡ true → settleOf w counts met ≡ Made
   unfolding settleOf
   settle-made e f = cond-true _ _ e ∙ cond-true _ _ f

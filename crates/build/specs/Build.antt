@@ -1,6 +1,7 @@
 -- What a build gives back and leaves in the rooms it is lent: the paper's tests, and then the rows of the ROW RULE, not of
 -- any walk. n frames, width w, stop k, start positions S, neighbour places L, order O.
-use Prim.Native.Nat.{ℕ, zero, suc, _+_, _*_, _/_, _%_}
+use Prim.Native.Nat.{ℕ, zero, suc, _+_, _*_, _/_, _%_, _≤_}
+use mathlib.Core.Path.{_≡_}
 use mathlib.Core.Bool.{Bool, cond, _&&_, _||_}
 use mathlib.Core.List.{List}
 use lib.ListN.{length, getD, replicate}
@@ -12,9 +13,9 @@ use Rattle.refusal.specs.declared.Refusal.{Refusal}
 use Rattle.refusal.specs.declared.Verdict.{Verdict}
 use Rattle.refusal.specs.declared.Verdict.the-variants.{Fine, Refused}
 use Rattle.theory.specs.Distance.{far}
-use Rattle.theory.specs.Links.{hubOf}
+use Rattle.theory.specs.Links.{Block, Order, hubOf}
 use Rattle.theory.specs.Rows.{Row, hubs}
-use Rattle.theory.specs.Plain.{joinsTo, rowBy}
+use Rattle.theory.specs.Plain.{ones, joinsTo, rowBy}
 use Rattle.links.specs.Links.{placesFit, startsTest, listsTest}
 use Rattle.links.specs.Order.{orderTest}
 use Rattle.rows.specs.Entry.{encode}
@@ -34,18 +35,17 @@ countsOf n R = table n (λ v. length (R v))
 unfoldable pub buildSizes : ℕ → ℕ → ℕ → ℕ → Bool
 buildSizes n w k places = sizesFit n w && (leb k n && placesFit places)
 
--- 2: n + 1 start positions, n ranks, n * W labels, n counts, two work rooms of n each
-unfoldable pub buildRooms : ℕ → ℕ → List ℕ → List ℕ → List ℕ → List ℕ → List ℕ → List ℕ → Bool
-buildRooms n w S O labels counts met queue =
-    eqb (length S) (n + 1)
-    && (eqb (length O) n
-    && (eqb (length labels) (n * w) && (eqb (length counts) n && (eqb (length met) n && eqb (length queue) n))))
+-- 2: n + 1 start positions, n ranks, n * W labels, n counts, two work rooms of n each; the lengths as they are
+unfoldable pub buildRooms : ℕ → ℕ → ℕ → ℕ → ℕ → ℕ → ℕ → ℕ → Bool
+buildRooms n w starts order labels counts met queue =
+    eqb starts (n + 1)
+    && (eqb order n && (eqb labels (n * w) && (eqb counts n && (eqb met n && eqb queue n))))
 
 -- the order of tests before the walks: 1, 2, 3, 4, 5
-unfoldable pub buildTests : ℕ → ℕ → ℕ → List ℕ → List ℕ → List ℕ → List ℕ → List ℕ → List ℕ → List ℕ → Verdict
+unfoldable pub buildTests : ℕ → ℕ → ℕ → List ℕ → List ℕ → List ℕ → ℕ → ℕ → ℕ → ℕ → Verdict
 buildTests n w k S L O labels counts met queue =
     test (buildSizes n w k (length L)) SIZE 0
-    then test (buildRooms n w S O labels counts met queue) LENGTH 0
+    then test (buildRooms n w (length S) (length O) labels counts met queue) LENGTH 0
     then startsTest n S L
     then listsTest n S L
     then orderTest n O
@@ -74,6 +74,44 @@ walksTest n w k S L O =
     let r : ℕ = stopAt n w k S L O in
     let full : Bool = fullAt n w S L O r in
     test (eqb r k) (cond full ROOM FAR) (cond full r 0)
+
+-- what the tests show: a block, an order, and rooms of the right length
+pub record MakeIn (n w k : ℕ) (S L O labels counts met queue : List ℕ) : Type 0 where
+  pub frames : n ≤ 4096
+  pub wide : 1 ≤ w
+  pub width : w ≤ 256
+  pub stop : k ≤ n
+  pub block : Block n 1 S L ones
+  pub places : length L ≤ 65536
+  pub order : Order n O
+  pub labels-long : length labels ≡ n * w
+  pub counts-long : length counts ≡ n
+  pub met-long : length met ≡ n
+  pub queue-long : length queue ≡ n
+
+-- the same with the rooms cleared
+pub record RunIn (n w k : ℕ) (S L O labels counts met queue noted : List ℕ) : Type 0 where
+  pub frames : n ≤ 4096
+  pub wide : 1 ≤ w
+  pub width : w ≤ 256
+  pub stop : k ≤ n
+  pub block : Block n 1 S L ones
+  pub places : length L ≤ 65536
+  pub order : Order n O
+  pub labels-zero : labels ≡ replicate (n * w) 0
+  pub counts-zero : counts ≡ replicate n 0
+  pub met-zero : met ≡ replicate n 0
+  pub queue-zero : queue ≡ replicate n 0
+  pub noted-far : noted ≡ replicate 4096 65536
+
+-- what the walks give back, and the rooms after them: the rows of the rule at the rank where they stopped
+pub record RunOut (n w k : ℕ) (S L O : List ℕ) (verdict : Verdict)
+    (labels-after counts-after met-after queue-after : List ℕ) : Type 0 where
+  pub answer : verdict ≡ walksTest n w k S L O
+  pub rows : labels-after ≡ labelsOf n w (rowBy n S L O (stopAt n w k S L O))
+  pub numbers : counts-after ≡ countsOf n (rowBy n S L O (stopAt n w k S L O))
+  pub met-zero : met-after ≡ replicate n 0
+  pub queue-zero : queue-after ≡ replicate n 0
 
 -- the paper's number, place and number of entries: success is 0, and on a refusal any other number is 0
 unfoldable pub builtNumber : Built → ℕ
@@ -117,4 +155,5 @@ afterTests lent (Refused r) made = outcome (NotBuilt r) (lent .labels) (lent .co
 unfoldable pub buildOf : ℕ → ℕ → ℕ → List ℕ → List ℕ → List ℕ → List ℕ → List ℕ → List ℕ → List ℕ → Outcome
 buildOf n w k S L O labels counts met queue =
     let made : Outcome = afterWalks n w (rowBy n S L O k) (walksTest n w k S L O) in
-    afterTests (outcome (Entries 0) labels counts met queue) (buildTests n w k S L O labels counts met queue) made
+    afterTests (outcome (Entries 0) labels counts met queue)
+    (buildTests n w k S L O (length labels) (length counts) (length met) (length queue)) made

@@ -4,14 +4,22 @@ use Prim.Native.Nat.{ℕ, _-_, _*_, _≤_, _<_}
 use mathlib.Core.Path.{_≡_}
 use mathlib.Core.Bool.{Bool, true, cond, not, _&&_}
 use mathlib.Core.List.{List, [], _∷_, _++_}
-use lib.ListN.{length, getD}
+use lib.ListN.{length, getD, replicate}
 use lib.Dec.{leb, ltb}
 use Rattle.basics.specs.Places.{some}
+use Rattle.refusal.specs.Numbers.{ROOM, FAR}
+use Rattle.refusal.specs.Tests.{refusal}
+use Rattle.refusal.specs.declared.Verdict.{Verdict}
+use Rattle.refusal.specs.declared.Verdict.the-variants.{Fine, Refused}
+use Rattle.theory.specs.Distance.{far}
 use Rattle.theory.specs.Rows.{Row}
+use Rattle.theory.specs.Walk.{walkRow}
+use Rattle.theory.specs.Plain.{joined}
 use Rattle.rows.specs.Entry.{decode}
 use Rattle.rows.specs.Rooms.{rowAt}
 use Rattle.build.specs.Build.{labelsOf, countsOf}
-use Rattle.build.specs.Explore.{Queued}
+use Rattle.build.specs.Explore.{Queued, ExploreIn}
+use Rattle.build.specs.Walk.{levelOf, kept, walkFits}
 use Rattle.build.specs.declared.settle.Walked.{Walked}
 use Rattle.build.specs.declared.settle.Walked.the-variants.{Made, Full, Far}
 
@@ -41,8 +49,8 @@ unfoldable pub fitsAll : ℕ → List ℕ → List ℕ → Bool
 fitsAll w counts met = not (some (λ v. lacksRoom w (getD counts v 0) (getD met v 0)) 0 (length met))
 
 -- no kept frame has over 4,095 joins
-unfoldable pub nearAll : List ℕ → Bool
-nearAll met = not (some (λ v. isFar (getD met v 0)) 0 (length met))
+unfoldable pub noneFar : List ℕ → Bool
+noneFar met = not (some (λ v. isFar (getD met v 0)) 0 (length met))
 
 -- the row with (rank, level) behind it where the mark says kept, else the row itself
 unfoldable pub gain : ℕ → ℕ → Row → Row
@@ -52,15 +60,23 @@ gain rank mark x = cond (isKept mark) (x ++ ((rank, mark - 1) ∷ [])) x
 unfoldable pub rowsAfter : ℕ → ℕ → List ℕ → List ℕ → List ℕ → ℕ → Row
 rowsAfter w rank labels counts met v = gain rank (getD met v 0) (rowsIn w labels counts v)
 
--- row v lies in the label room, and has room for an entry if the mark says kept
+-- the two rooms after it
+abbrev pub labelsAfter : ℕ → ℕ → List ℕ → List ℕ → List ℕ → List ℕ
+labelsAfter w rank labels counts met = labelsOf (length met) w (rowsAfter w rank labels counts met)
+
+abbrev pub countsAfter : ℕ → ℕ → List ℕ → List ℕ → List ℕ → List ℕ
+countsAfter w rank labels counts met = countsOf (length met) (rowsAfter w rank labels counts met)
+
+-- v is met, its row lies in the label room, and has room for an entry if the mark says kept
 pub record GiveIn (w v mark : ℕ) (labels counts : List ℕ) : Type 0 where
+  pub met : 0 < mark
   pub inside : v < length counts
   pub long : length labels ≡ length counts * w
   pub width : w ≤ 256
   pub room : isKept mark ≡ true → getD counts v 0 < w
 
 -- the rooms as they have to be when phase two begins
-pub record SettleIn (w rank : ℕ) (labels counts met queue : List ℕ) (tail : ℕ) : Type 0 where
+pub record SettleIn (w : ℕ) (labels counts met queue : List ℕ) (tail : ℕ) : Type 0 where
   pub frames : length met ≤ 4096
   pub wide : 1 ≤ w
   pub width : w ≤ 256
@@ -70,16 +86,46 @@ pub record SettleIn (w rank : ℕ) (labels counts met queue : List ℕ) (tail : 
 -- the walk decides before it stores: ROOM first, then FAR
 unfoldable pub settleOf : ℕ → List ℕ → List ℕ → Walked
 settleOf w counts met =
-    let near : Walked = cond (nearAll met) Made Far in
+    let near : Walked = cond (noneFar met) Made Far in
     cond (fitsAll w counts met) near Full
 
 -- either the whole walk is made or rows and counts stay
-unfoldable pub labelsAfter : Walked → ℕ → ℕ → List ℕ → List ℕ → List ℕ → List ℕ
-labelsAfter Made w rank labels counts met = labelsOf (length met) w (rowsAfter w rank labels counts met)
-labelsAfter Full w rank labels counts met = labels
-labelsAfter Far w rank labels counts met = labels
+unfoldable pub ifMade : Walked → List ℕ → List ℕ → List ℕ
+ifMade Made after before = after
+ifMade Full after before = before
+ifMade Far after before = before
 
-unfoldable pub countsAfter : Walked → ℕ → ℕ → List ℕ → List ℕ → List ℕ → List ℕ
-countsAfter Made w rank labels counts met = countsOf (length met) (rowsAfter w rank labels counts met)
-countsAfter Full w rank labels counts met = counts
-countsAfter Far w rank labels counts met = counts
+-- One hub's walk over the rows so far, whatever they are, by levels: the rows after it
+unfoldable pub walkedRows : ℕ → ℕ → List ℕ → List ℕ → List ℕ → List ℕ → ℕ → ℕ → ℕ → Row
+walkedRows n w S L labels counts rank hub v = walkRow (far 1 n) n (joined S L) (rowsIn w labels counts) rank hub v
+
+-- the walk gives no frame over 4,095 joins
+unfoldable pub walkNear : ℕ → ℕ → List ℕ → List ℕ → List ℕ → List ℕ → ℕ → Bool
+walkNear n w S L labels counts hub =
+    not (some (λ v. kept n w S L labels counts hub v && ltb 4095 (levelOf n w S L labels counts hub v)) 0 n)
+
+-- the whole walk, or which of the two stands against it
+unfoldable pub walkOf : ℕ → ℕ → List ℕ → List ℕ → List ℕ → List ℕ → ℕ → Walked
+walkOf n w S L labels counts hub =
+    let near : Walked = cond (walkNear n w S L labels counts hub) Made Far in
+    cond (walkFits n w S L labels counts hub) near Full
+
+-- a block, sound rows that the rooms hold and nothing else, work rooms 0
+pub record WalkIn (n w : ℕ) (S L labels counts : List ℕ) (hub : ℕ) (met queue noted : List ℕ) : Type 0 where
+  pub ready : ExploreIn n w S L labels counts hub met queue noted
+  pub laid : Laid n w labels counts
+
+-- what the walk gives back, and the rooms after it; the work rooms are 0 either way
+pub record WalkOut (n w : ℕ) (S L labels counts : List ℕ) (rank hub : ℕ) (walked : Walked)
+    (labels-after counts-after met-after queue-after : List ℕ) : Type 0 where
+  pub answer : walked ≡ walkOf n w S L labels counts hub
+  pub rows : labels-after ≡ ifMade walked (labelsOf n w (walkedRows n w S L labels counts rank hub)) labels
+  pub numbers : counts-after ≡ ifMade walked (countsOf n (walkedRows n w S L labels counts rank hub)) counts
+  pub met-zero : met-after ≡ replicate n 0
+  pub queue-zero : queue-after ≡ replicate n 0
+
+-- what a walk of this rank makes of the build: ROOM at the rank, FAR at 0
+unfoldable pub verdictOf : Walked → ℕ → Verdict
+verdictOf Made rank = Fine
+verdictOf Full rank = Refused (refusal ROOM rank)
+verdictOf Far rank = Refused (refusal FAR 0)

@@ -1,5 +1,6 @@
 // Phase two of one hub's walk. The frames that it met stand in the queue, their marks in the met room. First each kept
 // frame is tested for room, and only then is anything stored, so that the walk is made as a whole or not at all.
+use crate::explore::DROPPED;
 use rows::entry::Entry;
 use rows::entry::entry_of;
 ghost use mathlib.Core.Path.{_≡_};
@@ -8,7 +9,7 @@ ghost use Prim.Native.Nat.{_+_, _-_, _*_, _≤_, _<_};
 ghost use lib.ListN.{length, getD, set, replicate};
 ghost use Rattle.rows.specs.Entry.{entryOf};
 ghost use Rattle.build.specs.Explore.{Queued};
-ghost use Rattle.build.specs.Settle.{isKept, lacksRoom, isFar, fitsAll, nearAll, GiveIn, SettleIn, settleOf, labelsAfter, countsAfter};
+ghost use Rattle.build.specs.Settle.{isKept, lacksRoom, isFar, fitsAll, noneFar, GiveIn, SettleIn, settleOf, labelsAfter, countsAfter, ifMade};
 
 // What became of a walk: made as a whole, or refused for room or for too many joins with nothing stored.
 pub enum Walked {
@@ -17,29 +18,22 @@ pub enum Walked {
     Far,
 }
 
-// The mark of a dropped frame is this or more.
-const DROPPED: u32 = 65536;
-
-// A frame with this count and mark is kept and has no room.
+// A met frame with this count and mark is kept and has no room.
 pub fn lacks_room(w: usize, count: u32, mark: u32) -> bool
+    requires { ⌜ 0 < mark ⌝ }
     ensures { λ r. ⌜ r ≡ lacksRoom w count mark ⌝ }
 {
-    if mark < 1 {
-        return false;
-    }
     if DROPPED <= mark {
         return false;
     }
     w <= count as usize
 }
 
-// A frame with this mark is kept and has over 4,095 joins.
+// A met frame with this mark is kept and has over 4,095 joins.
 pub fn is_far(mark: u32) -> bool
+    requires { ⌜ 0 < mark ⌝ }
     ensures { λ r. ⌜ r ≡ isFar mark ⌝ }
 {
-    if mark < 1 {
-        return false;
-    }
     if DROPPED <= mark {
         return false;
     }
@@ -51,31 +45,31 @@ pub fn fits(w: usize, counts: &[u32], met: &[u32], queue: &[u32], tail: usize) -
     requires { ⌜ (length (now counts) ≡ length (now met)) × Queued (now met) (now queue) tail ⌝ }
     ensures { λ r. ⌜ r ≡ fitsAll w (now (counts .entry)) (now (met .entry)) ⌝ }
 {
-    let mut i = 0;
-    while i < tail {
-        let v = queue[i] as usize;
+    let mut at = 0;
+    while at < tail {
+        let v = queue[at] as usize;
         let full = lacks_room(w, counts[v], met[v]);
         if full {
             return false;
         }
-        i += 1;
+        at += 1;
     }
     true
 }
 
 // No kept frame has over 4,095 joins.
-pub fn near(met: &[u32], queue: &[u32], tail: usize) -> bool
+pub fn none_far(met: &[u32], queue: &[u32], tail: usize) -> bool
     requires { ⌜ Queued (now met) (now queue) tail ⌝ }
-    ensures { λ r. ⌜ r ≡ nearAll (now (met .entry)) ⌝ }
+    ensures { λ r. ⌜ r ≡ noneFar (now (met .entry)) ⌝ }
 {
-    let mut i = 0;
-    while i < tail {
-        let v = queue[i] as usize;
+    let mut at = 0;
+    while at < tail {
+        let v = queue[at] as usize;
         let far = is_far(met[v]);
         if far {
             return false;
         }
-        i += 1;
+        at += 1;
     }
     true
 }
@@ -83,12 +77,17 @@ pub fn near(met: &[u32], queue: &[u32], tail: usize) -> bool
 // Puts (rank, mark - 1) behind the row of v and raises its count, if the mark says kept.
 pub fn give(w: usize, rank: usize, v: usize, mark: u32, labels: &mut [Entry], counts: &mut [u32])
     requires { ⌜ GiveIn w v mark (now labels) (now counts) ⌝ }
-    ensures { λ r. ⌜ now (labels .exit) ≡ cond (isKept mark) (set (now (labels .entry)) (v * w + getD (now (counts .entry)) v 0) (entryOf rank (mark - 1))) (now (labels .entry)) ⌝ }
-    ensures { λ r. ⌜ now (counts .exit) ≡ cond (isKept mark) (set (now (counts .entry)) v (getD (now (counts .entry)) v 0 + 1)) (now (counts .entry)) ⌝ }
+    ensures { λ r. ⌜
+        now (labels .exit)
+        ≡ cond (isKept mark)
+        (set (now (labels .entry)) (v * w + getD (now (counts .entry)) v 0) (entryOf rank (mark - 1)))
+        (now (labels .entry))
+        ⌝ }
+    ensures { λ r. ⌜
+        now (counts .exit)
+        ≡ cond (isKept mark) (set (now (counts .entry)) v (getD (now (counts .entry)) v 0 + 1)) (now (counts .entry))
+        ⌝ }
 {
-    if mark < 1 {
-        return;
-    }
     if DROPPED <= mark {
         return;
     }
@@ -109,15 +108,21 @@ pub fn store(
     queue: &[u32],
     tail: usize,
 )
-    requires { ⌜ SettleIn w rank (now labels) (now counts) (now met) (now queue) tail × (fitsAll w (now counts) (now met) ≡ true) ⌝ }
-    ensures { λ r. ⌜ now (labels .exit) ≡ labelsAfter Walked.Made w rank (now (labels .entry)) (now (counts .entry)) (now (met .entry)) ⌝ }
-    ensures { λ r. ⌜ now (counts .exit) ≡ countsAfter Walked.Made w rank (now (labels .entry)) (now (counts .entry)) (now (met .entry)) ⌝ }
+    requires { ⌜
+        SettleIn w (now labels) (now counts) (now met) (now queue) tail × (fitsAll w (now counts) (now met) ≡ true)
+        ⌝ }
+    ensures { λ r. ⌜
+        now (labels .exit) ≡ labelsAfter w rank (now (labels .entry)) (now (counts .entry)) (now (met .entry))
+        ⌝ }
+    ensures { λ r. ⌜
+        now (counts .exit) ≡ countsAfter w rank (now (labels .entry)) (now (counts .entry)) (now (met .entry))
+        ⌝ }
 {
-    let mut i = 0;
-    while i < tail {
-        let v = queue[i] as usize;
+    let mut at = 0;
+    while at < tail {
+        let v = queue[at] as usize;
         give(w, rank, v, met[v], labels, counts);
-        i += 1;
+        at += 1;
     }
 }
 
@@ -127,12 +132,12 @@ pub fn clean(met: &mut [u32], queue: &mut [u32], tail: usize)
     ensures { λ r. ⌜ now (met .exit) ≡ replicate (length (now (met .entry))) 0 ⌝ }
     ensures { λ r. ⌜ now (queue .exit) ≡ replicate (length (now (met .entry))) 0 ⌝ }
 {
-    let mut i = 0;
-    while i < tail {
-        let v = queue[i] as usize;
+    let mut at = 0;
+    while at < tail {
+        let v = queue[at] as usize;
         met[v] = 0;
-        queue[i] = 0;
-        i += 1;
+        queue[at] = 0;
+        at += 1;
     }
 }
 
@@ -146,14 +151,20 @@ pub fn settle(
     queue: &[u32],
     tail: usize,
 ) -> Walked
-    requires { ⌜ SettleIn w rank (now labels) (now counts) (now met) (now queue) tail ⌝ }
+    requires { ⌜ SettleIn w (now labels) (now counts) (now met) (now queue) tail ⌝ }
     ensures { λ r. ⌜ r ≡ settleOf w (now (counts .entry)) (now (met .entry)) ⌝ }
-    ensures { λ r. ⌜ now (labels .exit) ≡ labelsAfter r w rank (now (labels .entry)) (now (counts .entry)) (now (met .entry)) ⌝ }
-    ensures { λ r. ⌜ now (counts .exit) ≡ countsAfter r w rank (now (labels .entry)) (now (counts .entry)) (now (met .entry)) ⌝ }
+    ensures { λ r. ⌜
+        now (labels .exit)
+        ≡ ifMade r (labelsAfter w rank (now (labels .entry)) (now (counts .entry)) (now (met .entry))) (now (labels .entry))
+        ⌝ }
+    ensures { λ r. ⌜
+        now (counts .exit)
+        ≡ ifMade r (countsAfter w rank (now (labels .entry)) (now (counts .entry)) (now (met .entry))) (now (counts .entry))
+        ⌝ }
 {
     let room = fits(w, counts, met, queue, tail);
     if room {
-        let short = near(met, queue, tail);
+        let short = none_far(met, queue, tail);
         if short {
             store(w, rank, labels, counts, met, queue, tail);
             return Walked::Made;

@@ -11,6 +11,9 @@ use Rattle.rows.specs.Rooms.{checkRow}
 use Rattle.rows.specs.Lookup.{rowOf, rowStart}
 use Rattle.rows.specs.Pair as pair
 use Rattle.rows.specs.Spread as spread
+use Rattle.file.specs.Writer.{Wrote}
+use Rattle.file.specs.Reader as reader
+use Rattle.file.specs.declared.Opened.{Opened}
 
 -- the number returned, `*place`, the other out values and the lent rooms, both in the order of the parameters
 pub record Outs : Type 0 where
@@ -43,3 +46,19 @@ rowOuts n w labels counts v =
 -- the spread question
 unfoldable pub spreadOuts : spread.SpreadTold → Outs
 spreadOuts t = outs (t .number) (t .place) (t .spread ∷ []) []
+
+-- the writer: the bytes it filled, and the output room
+unfoldable pub writeOuts : Wrote → Outs
+writeOuts o = outs (o .number) (o .place) (o .bytes ∷ []) (o .room ∷ [])
+
+-- the header: n and k
+unfoldable pub headerOuts : Opened → Outs
+headerOuts a =
+    let t : reader.Told = reader.told a in
+    outs (t .number) (t .place) (t .frames ∷ (t .stop ∷ [])) []
+
+-- the reader: n and k, and the order room, the label room and the count room
+unfoldable pub readOuts : reader.Outcome → Outs
+readOuts o =
+    let t : reader.Told = reader.told (o .answer) in
+    outs (t .number) (t .place) (t .frames ∷ (t .stop ∷ [])) (o .order ∷ (o .labels ∷ (o .counts ∷ [])))

@@ -1,14 +1,14 @@
 -- The laws of bits as one big number: bytes and fields read off a byte string, fields put together, bytes made of a number.
-use Prim.Native.Nat.{ℕ, zero, suc, _+_, _-_, _*_, _/_, _%_, _^_, _≤_, _<_, zero-le}
+use Prim.Native.Nat.{ℕ, zero, suc, _+_, _-_, _*_, _/_, _%_, _^_, _≤_, _<_}
 use mathlib.Core.Path.{_≡_, refl, sym, ap, ap₂, subst, _∙_}
 use mathlib.Core.List.{List, [], _∷_, _++_}
 use native.Mathlib.Omega.{arith}
-use native.Mathlib.Nat.{add-zero, mod-one, div-eq-of-lt, suc-add, zero-add, mul-zero, mul-suc, add-assoc, add-mul, mul-assoc, mul-comm, mod-lt, mod-eq-of-lt, div-add-mod', sub-zero, sub-self, add-sub-cancel-left, pow-zero, div-one, le-refl}
+use native.Mathlib.Nat.{mod-one, div-eq-of-lt, suc-add, zero-add, mul-zero, add-assoc, mul-assoc, mul-comm, mod-lt, mod-eq-of-lt, sub-zero, sub-self, div-one, le-refl}
 use lib.ListN.{length, getD, take, drop, length-append, take-append-drop}
 use lib.Seq.{length-take-le, take-suc, getD-drop}
-use lib.Pow.{pow-pos, pow-add, split, high, low, field, shr-shr, mod-mod-pow, mod-pow-add, shl-lt, shr-lt, pow-mono}
-use lib.Arith.{digits-lt, digits-div, digits-mod}
-use Rattle.file.specs.Bits.{val, upTo, fieldAt, Field, bitLen, num, bytesOf, byteLen, padLen, packed, Bytes, Legal}
+use lib.Pow.{pow-pos, pow-add, split, high, low, field, shr-shr, mod-mod-pow, mod-pow-add}
+use lib.Arith.{digits-lt}
+use Rattle.file.specs.Bits.{val, upTo, fieldAt, Field, bitLen, num, bytesOf, Bytes, Legal}
 
 -- ---- the number that a byte string is
 

@@ -1,26 +1,24 @@
 -- The laws of the reader's tests, one field after another: where a test stops, where it goes on, where it ends.
-use Prim.Native.Nat.{ℕ, zero, suc, _+_, _-_, _*_, _/_, _^_, _≤_, _<_}
+use Prim.Native.Nat.{ℕ, zero, suc, _+_, _-_, _*_, _≤_, _<_}
 use mathlib.Core.Path.{_≡_, refl, sym, ap, ap₂, _∙_}
-use mathlib.Core.Bool.{Bool, true, false, not, _&&_}
+use mathlib.Core.Bool.{Bool, true, false, _&&_}
 use mathlib.Core.List.{List}
 use native.Mathlib.Omega.{arith}
 use native.Mathlib.Numerals.{add-one}
 use lib.ListN.{length, getD, set, replicate, length-set, length-replicate, getD-replicate}
-use lib.Dec.{leb, ltb, eqb}
-use borrow.Author.Tests.{le-leb, lt-leb, lt-ltb, le-ltb, leb-true, ltb-true, eq-eqb, ne-eqb}
-use Rattle.basics.proofs.Laws.{both, both-true, not-of-true, not-of-false, less-one, at-set}
-use Rattle.refusal.specs.Numbers.{ROOM, SHORT, FIELD, LONG}
-use Rattle.refusal.specs.Tests.{test, _then_, refusal}
+use lib.Dec.{leb, ltb}
+use borrow.Author.Tests.{le-leb, lt-leb, lt-ltb, le-ltb, leb-true, eq-eqb, ne-eqb}
+use Rattle.basics.proofs.Laws.{both, not-of-true, not-of-false, less-one, at-set}
+use Rattle.refusal.specs.Numbers.{ROOM, FIELD, LONG}
+use Rattle.refusal.specs.Tests.{refusal}
 use Rattle.refusal.specs.declared.Refusal.{Refusal}
 use Rattle.refusal.specs.declared.Verdict.{Verdict}
 use Rattle.refusal.proofs.Laws.{test-fine, test-refused, test-held, then-fine, after-fine, after-refused}
-use Rattle.links.specs.Order.{stands, faultyRank}
+use Rattle.links.specs.Order.{stands}
 use Rattle.links.proofs.Order.{rank-out, rank-again, rank-sound, stands-none, stands-this, stands-other}
 use Rattle.file.specs.Bits.{fieldAt, byteLen, padLen}
 use Rattle.file.specs.Reader.{shortTest, fieldTest, frameAt, orderFieldTest, orderFrom, entryTest, entriesFrom, rowTest, behind, whole, goOn, rowsFrom, rowsOf, endTest, bodyTest}
 use Rattle.file.specs.Steps.{Seen}
-use Rattle.file.specs.declared.Whole.{Whole}
-use Rattle.file.proofs.Bits.{field-lt}
 use Rattle.file.proofs.Steps.{field-fine, field-refused, field-short, field-there, field-legal}
 
 -- ---- the order

@@ -1,9 +1,9 @@
 -- An index that the writer's tests let through: every value fits its field, every row lies in the label room, and the file
 -- has as many bytes as the paper says.
-use Prim.Native.Nat.{ℕ, zero, suc, _+_, _-_, _*_, _/_, _^_, _≤_, _<_}
-use mathlib.Core.Path.{_≡_, refl, sym, ap, subst, _∙_}
-use mathlib.Core.Bool.{Bool, true, false, not, _&&_}
-use mathlib.Core.List.{List, [], _∷_, _++_}
+use Prim.Native.Nat.{ℕ, _+_, _*_, _/_, _≤_, _<_}
+use mathlib.Core.Path.{_≡_, sym, subst, _∙_}
+use mathlib.Core.Bool.{true, not, _&&_}
+use mathlib.Core.List.{List, _++_}
 use native.Mathlib.Omega.{arith}
 use borrow.Author.Tests.{le-leb, leb-true, eqb-true, eq-eqb}
 use lib.ListN.{length, getD}
@@ -11,7 +11,6 @@ use lib.Dec.{leb, eqb}
 use Rattle.basics.specs.Places.{sum, first}
 use Rattle.basics.proofs.Laws.{both-true, both, first-before, of-not-false}
 use Rattle.refusal.specs.Tests.{test, _then_}
-use Rattle.refusal.specs.declared.Verdict.{Verdict}
 use Rattle.refusal.specs.declared.Verdict.the-variants.{Fine}
 use Rattle.refusal.proofs.Laws.{test-fine, test-held, then-fine, after-fine}
 use Rattle.theory.specs.Links.{Order}

@@ -1,13 +1,13 @@
 -- A field gathered byte by byte: what has been gathered are the last bits of the first bytes; the field is cut out of it.
-use Prim.Native.Nat.{ℕ, zero, suc, _+_, _-_, _*_, _/_, _%_, _^_, _≤_, _<_}
-use mathlib.Core.Path.{_≡_, refl, sym, ap, ap₂, subst, _∙_}
+use Prim.Native.Nat.{ℕ, _+_, _-_, _*_, _/_, _%_, _^_, _≤_, _<_}
+use mathlib.Core.Path.{_≡_, sym, ap, ap₂, _∙_}
 use mathlib.Core.List.{List}
 use native.Mathlib.Omega.{arith}
 use native.Mathlib.Nat.{mod-one, mod-lt, mod-eq-of-lt, sub-self}
 use lib.ListN.{length, getD}
 use lib.Pow.{pow-pos, pow-mono, split}
 use Rattle.file.specs.Bits.{upTo, fieldAt, byteLen, Bytes}
-use Rattle.file.specs.Reader.{Inside}
+use Rattle.file.specs.Steps.{Inside}
 use Rattle.file.proofs.Bits.{gather-step, gathered}
 
 -- what the bytes from bit p's byte up to byte `at` give

@@ -1,19 +1,19 @@
 -- The header's tests, one field after another, and what an answer tells.
-use Prim.Native.Nat.{ℕ, zero, suc, _+_, _≤_, _<_}
-use mathlib.Core.Path.{_≡_, refl, sym, ap, _∙_}
+use Prim.Native.Nat.{ℕ, _+_, _≤_, _<_}
+use mathlib.Core.Path.{_≡_, refl, sym, ap, ap₂, _∙_}
 use mathlib.Core.List.{List}
 use native.Mathlib.Omega.{arith}
 use lib.ListN.{length}
 use lib.Dec.{leb, eqb}
 use borrow.Author.Tests.{le-leb, lt-leb, eq-eqb, ne-eqb, leb-true, eqb-true}
 use Rattle.refusal.specs.Numbers.{SHORT, VERSION, FIELD}
-use Rattle.refusal.specs.Tests.{test, _then_, refusal}
+use Rattle.refusal.specs.Tests.{_then_, refusal}
 use Rattle.refusal.specs.declared.Refusal.{Refusal}
 use Rattle.refusal.specs.declared.Verdict.{Verdict}
 use Rattle.refusal.proofs.Laws.{test-fine, test-refused, test-held, then-fine, after-fine, after-refused}
 use Rattle.file.specs.declared.Opened.{Opened}
 use Rattle.file.specs.Bits.{fieldAt, byteLen}
-use Rattle.file.specs.Reader.{shortTest, fieldTest, framesOf, stopOf, headerTest, opened, told, tellOf}
+use Rattle.file.specs.Reader.{shortTest, fieldTest, framesOf, stopOf, headerTest, opened, told, tellOf, Told}
 use Rattle.file.proofs.Bits.{field-lt}
 use Rattle.file.proofs.Steps.{short-fine, short-refused, field-fine, field-refused, field-short, field-there, field-legal}
 
@@ -35,6 +35,17 @@ tells (Verdict.Refused r) n k = refl
 
 pub answered : {r : Opened} (v : Verdict) (n k : ℕ) → r ≡ opened v n k → (r ≡ opened v n k) × (told r ≡ tellOf v n k)
 answered v n k e = (e, ap told e ∙ tells v n k)
+
+-- the paper's numbers tell the answers apart, where an index has frames and a refusal a number
+pub told-apart : (a b : Opened) → told a ≡ told b → 0 < told a .number + told a .frames → a ≡ b
+unfolding told
+told-apart (Opened.Index n k) (Opened.Index m l) e h =
+    ap₂ Opened.Index (ap (λ (t : Told). t .frames) e) (ap (λ (t : Told). t .stop) e)
+told-apart (Opened.Index n k) (Opened.Refused r) e h = absurd (omega (arith, ap (λ (t : Told). t .frames) e))
+told-apart (Opened.Refused r) (Opened.Index n k) e h =
+    absurd (omega (arith, ap (λ (t : Told). t .number) e, ap (λ (t : Told). t .frames) e))
+told-apart (Opened.Refused r) (Opened.Refused q) e h =
+    λ i. Opened.Refused (record { number = e i .number; place = e i .place })
 
 -- an index is told by n and k
 pub index-is : (v : Verdict) {n k : ℕ} (m l : ℕ) → Opened.Index n k ≡ opened v m l → (v ≡ Verdict.Fine) × (n ≡ m) × (k ≡ l)

@@ -1,20 +1,17 @@
 -- What tests that are fine show: every field is there and legal, and the rows stand where `rowBit` says.
-use Prim.Native.Nat.{ℕ, zero, suc, _+_, _-_, _*_, _/_, _^_, _≤_, _<_}
-use mathlib.Core.Path.{_≡_, refl, sym, ap, ap₂, subst, _∙_}
-use mathlib.Core.Bool.{Bool, true, false, not, _&&_}
+use Prim.Native.Nat.{ℕ, zero, suc, _+_, _-_, _*_, _≤_, _<_}
+use mathlib.Core.Path.{_≡_, refl, sym, ap, subst, _∙_}
 use mathlib.Core.List.{List}
 use native.Mathlib.Omega.{arith}
 use native.Mathlib.Decide.{ℕ-discrete}
 use native.Mathlib.Nat.{add-zero, zero-add}
 use lib.ListN.{length}
-use lib.Dec.{leb, ltb, eqb}
 use borrow.Author.Tests.{leb-true, ltb-true}
 use Rattle.basics.proofs.Laws.{by-cases, both-true}
-use Rattle.refusal.specs.Tests.{_then_}
 use Rattle.refusal.specs.declared.Verdict.{Verdict}
 use Rattle.refusal.proofs.Laws.{then-fine, fine-not-refused}
 use Rattle.file.specs.Bits.{fieldAt, byteLen}
-use Rattle.file.specs.Reader.{fieldTest, orderFieldTest, orderFrom, entryTest, entriesFrom, rowTest, behind, whole, goOn, rowsFrom, rowsOf, rowBit}
+use Rattle.file.specs.Reader.{orderFieldTest, orderFrom, entryTest, entriesFrom, rowTest, behind, whole, goOn, rowsFrom, rowsOf, rowBit}
 use Rattle.file.specs.declared.Whole.{Whole}
 use Rattle.file.proofs.Bits.{field-lt}
 use Rattle.file.proofs.Steps.{field-there, field-legal}

@@ -1,16 +1,16 @@
--- The field lists of the layout: how many bits they take, and when every value fits its width.
-use Prim.Native.Nat.{ℕ, zero, suc, _+_, _-_, _*_, _^_, _≤_, _<_}
-use mathlib.Core.Path.{_≡_, refl, sym, ap, ap₂, subst, _∙_}
+-- The field lists of the layout: how many bits they take, when every value fits its width, and that the same index has the
+-- same file.
+use Prim.Native.Nat.{ℕ, zero, suc, _+_, _*_, _<_}
+use mathlib.Core.Path.{_≡_, refl, sym, ap, ap₂, _∙_}
 use mathlib.Core.List.{List, [], _∷_, _++_}
 use native.Mathlib.Omega.{arith}
-use lib.ListN.{length, getD, drop}
-use lib.ListN.{drop-of-length-le}
+use lib.ListN.{length, getD, drop, drop-of-length-le}
 use lib.Seq.{drop-cons}
 use Rattle.basics.specs.Places.{sum}
 use Rattle.rows.specs.Entry.{rankOf, joinsOf}
 use Rattle.rows.specs.Rooms.{rowAt}
-use Rattle.file.specs.Bits.{Field, bitLen, Legal}
-use Rattle.file.specs.Layout.{headerFields, orderFields, entryFields, rowFields, rowsFields, fileFields}
+use Rattle.file.specs.Bits.{Field, field, bitLen, packed, Legal}
+use Rattle.file.specs.Layout.{headerFields, orderFields, entryFields, rowFields, rowsFields, fileFields, fileOf, Stored, Same}
 use Rattle.file.proofs.Bits.{bitLen-append}
 use Rattle.file.proofs.Packed.{legal-append}
 
@@ -71,3 +71,25 @@ rows-legal w labels counts v zero h = tt
 rows-legal w labels counts v (suc left) h =
     legal-append (rowFields w labels counts v) (rowsFields w labels counts (suc v) left) (h v (omega arith))
     (rows-legal w labels counts (suc v) left (λ u l. h u (omega arith)))
+
+-- ---- the same index has the same fields, whatever its width
+
+rows-same : (w x : ℕ) (L M counts : List ℕ) (v left : ℕ) → ((u : ℕ) → u < v + left → rowAt w L counts u ≡ rowAt x M counts u) →
+    rowsFields w L counts v left ≡ rowsFields x M counts v left
+unfolding rowsFields rowFields
+rows-same w x L M counts v zero h = refl
+rows-same w x L M counts v (suc left) h =
+    ap₂ (λ (r : List ℕ) (fs : List Field). (field (getD counts v 0) 9 ∷ entryFields r) ++ fs) (h v (omega arith))
+    (rows-same w x L M counts (suc v) left (λ u b. h u (omega arith)))
+
+pub same-file : (a b : Stored) → Same a b →
+    fileOf (a .frames) (a .stop) (a .width) (a .order) (a .labels) (a .counts) ≡ fileOf (b .frames) (b .stop) (b .width) (b .order) (b .labels) (b .counts)
+unfolding fileOf fileFields
+same-file a b s =
+    let n : ℕ = a .frames in
+    let rows : rowsFields (a .width) (a .labels) (a .counts) 0 n ≡ rowsFields (b .width) (b .labels) (a .counts) 0 n =
+    rows-same (a .width) (b .width) (a .labels) (b .labels) (a .counts) 0 n
+    (λ u l. s .entries u (omega arith) ∙ ap (λ (c : List ℕ). rowAt (b .width) (b .labels) c u) (sym (s .counts))) in
+    ap (λ (fs : List Field). packed (headerFields n (a .stop) ++ (orderFields (a .order) ++ fs))) rows
+    ∙ ap₂ (λ (m k : ℕ). packed (headerFields m k ++ (orderFields (a .order) ++ rowsFields (b .width) (b .labels) (a .counts) 0 m))) (s .frames) (s .stop)
+    ∙ ap₂ (λ (O counts : List ℕ). packed (headerFields (b .frames) (b .stop) ++ (orderFields O ++ rowsFields (b .width) (b .labels) counts 0 (b .frames)))) (s .order) (s .counts)

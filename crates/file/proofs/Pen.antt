@@ -1,12 +1,12 @@
 -- The laws by which every writing function is proved: what is written so far, followed by the fields left, is the whole.
-use Prim.Native.Nat.{ℕ, zero, suc, _+_, _-_, _*_, _/_, _%_, _^_, _≤_, _<_}
+use Prim.Native.Nat.{ℕ, _+_, _-_, _*_, _≤_, _<_}
 use mathlib.Core.Path.{_≡_, refl, sym, ap, subst, _∙_}
 use mathlib.Core.List.{List, [], _∷_, _++_}
 use native.Mathlib.Omega.{arith}
-use native.Mathlib.Nat.{add-assoc, add-zero, add-sub-of-le}
-use lib.ListN.{length, take, drop}
+use native.Mathlib.Nat.{add-zero, add-sub-of-le}
+use lib.ListN.{length, drop}
 use lib.Seq.{drop-drop}
-use Rattle.file.specs.Bits.{Field, val, bitLen, num, Legal, Bytes}
+use Rattle.file.specs.Bits.{Field, bitLen, num, Legal}
 use Rattle.file.specs.Pen.{penBits, penNum, Ready, Put}
 use Rattle.file.specs.declared.put.Pen.{Pen}
 use Rattle.file.proofs.Bits.{num-append, bitLen-append}

@@ -1,15 +1,13 @@
 -- The fields of a file, found again where the reader looks for them: header, order, counts and entries.
-use Prim.Native.Nat.{ℕ, zero, suc, _+_, _-_, _*_, _/_, _%_, _^_, _≤_, _<_}
-use mathlib.Core.Path.{_≡_, refl, sym, ap, ap₂, subst, _∙_}
+use Prim.Native.Nat.{ℕ, zero, suc, _+_, _-_, _*_, _≤_, _<_}
+use mathlib.Core.Path.{_≡_, ap, subst, _∙_}
 use mathlib.Core.List.{List, [], _∷_, _++_}
 use native.Mathlib.Omega.{arith}
-use native.Mathlib.Nat.{add-zero, add-assoc, sub-zero}
+use native.Mathlib.Nat.{add-zero, sub-zero}
 use lib.ListN.{length, getD}
-use Rattle.basics.specs.Places.{table}
-use Rattle.basics.proofs.Laws.{less-one, is-table}
 use Rattle.rows.specs.Entry.{rankOf, joinsOf}
 use Rattle.rows.specs.Rooms.{rowAt}
-use Rattle.file.specs.Bits.{Field, fieldAt, bitLen, byteLen, padLen, packed, Reads}
+use Rattle.file.specs.Bits.{Field, fieldAt, bitLen, byteLen, padLen, Reads}
 use Rattle.file.specs.Layout.{headerFields, orderFields, entryFields, rowFields, rowsFields, fileFields, fileOf}
 use Rattle.file.specs.Reader.{framesOf, stopOf, frameAt, behind, rowBit, countAt}
 use Rattle.file.specs.Writer.{Fit}

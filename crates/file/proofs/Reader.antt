@@ -1,22 +1,20 @@
 -- The reader's tests as a whole: width, header, lengths, body; what a file that passes them has; and the rooms it fills.
-use Prim.Native.Nat.{ℕ, zero, suc, _+_, _*_, _≤_, _<_}
-use mathlib.Core.Path.{_≡_, refl, sym, ap, ap₂, subst, _∙_}
-use mathlib.Core.Bool.{Bool, true, false, _&&_}
+use Prim.Native.Nat.{ℕ, _*_, _≤_, _<_}
+use mathlib.Core.Path.{_≡_, sym, ap, ap₂, subst, _∙_}
+use mathlib.Core.Bool.{true, false}
 use mathlib.Core.List.{List}
 use native.Mathlib.Omega.{arith}
 use lib.ListN.{length}
-use lib.Dec.{leb, eqb}
 use borrow.Author.Tests.{le-leb, lt-leb, eq-eqb, ne-eqb, leb-true, eqb-true}
 use Rattle.basics.specs.Places.{table}
 use Rattle.basics.proofs.Laws.{both, both-true}
 use Rattle.refusal.specs.Numbers.{SIZE, LENGTH}
-use Rattle.refusal.specs.Tests.{test, _then_, refusal}
+use Rattle.refusal.specs.Tests.{refusal}
 use Rattle.refusal.specs.declared.Refusal.{Refusal}
 use Rattle.refusal.specs.declared.Verdict.{Verdict}
 use Rattle.refusal.proofs.Laws.{test-fine, test-refused, test-held, then-fine, after-fine, after-refused}
 use Rattle.file.specs.declared.Opened.{Opened}
-use Rattle.file.specs.Bits.{byteLen}
-use Rattle.file.specs.Reader.{framesOf, stopOf, headerTest, frameAt, orderFrom, rowsOf, endTest, bodyTest, widthFits, lengthsFit, readTest, opened, rowBit, countAt, labelAt, orderRead, labelsRead, countsRead, outcome, filledIn, readOf}
+use Rattle.file.specs.Reader.{framesOf, stopOf, headerTest, frameAt, orderFrom, rowsOf, endTest, bodyTest, widthFits, lengthsFit, readTest, rowBit, countAt, labelAt, orderRead, labelsRead, countsRead, outcome, filledIn, readOf}
 use Rattle.file.specs.Stores.{filled, Ordered, Rowed}
 use Rattle.file.proofs.Fields.{row-fits}
 use Rattle.file.proofs.Heading.{Headed, headed, frames-most}

@@ -13,7 +13,7 @@ use lib.Arith.{digits-div, digits-mod}
 use lib.Dec.{ltb}
 use borrow.Author.Tests.{lt-ltb, le-ltb}
 use Rattle.basics.specs.Places.{table}
-use Rattle.basics.proofs.Laws.{by-cases, lt-or-ge, cond-true, cond-false, less-one, is-table}
+use Rattle.basics.proofs.Laws.{by-cases, cond-true, cond-false, less-one, is-table}
 use Rattle.file.specs.Bits.{fieldAt, byteLen}
 use Rattle.file.specs.Reader.{entryAt, countAt, labelAt, behind, rowBit}
 use Rattle.file.specs.Stores.{filled, entryFrom, nought, cellAt, Row, Rowed}

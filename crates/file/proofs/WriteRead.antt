@@ -1,36 +1,36 @@
 -- A file that was written is read back: every test of the reader is fine, and the rooms then hold the same index, at any
 -- width from the largest count up and whatever they held before.
-use Prim.Native.Nat.{ℕ, zero, suc, _+_, _-_, _*_, _/_, _%_, _^_, _≤_, _<_}
+use Prim.Native.Nat.{ℕ, zero, suc, _+_, _*_, _≤_, _<_}
 use mathlib.Core.Path.{_≡_, refl, sym, ap, ap₂, subst, _∙_}
-use mathlib.Core.Bool.{Bool, true, false, cond}
-use mathlib.Core.List.{List, [], _∷_, _++_}
+use mathlib.Core.Bool.{false, cond}
+use mathlib.Core.List.{List}
 use native.Mathlib.Omega.{arith}
 use native.Mathlib.Nat.{le-of-eq, lt-of-lt-of-le}
 use borrow.Author.Tests.{le-leb, lt-ltb, eq-eqb, ne-eqb}
 use lib.ListN.{length, getD, take, drop}
 use lib.Arith.{digits-div, digits-mod}
-use lib.Dec.{leb, ltb, eqb}
+use lib.Dec.{ltb, eqb}
 use lib.Seq.{ext-getD}
-use Rattle.basics.specs.Places.{table, some}
+use Rattle.basics.specs.Places.{table}
 use Rattle.basics.proofs.Laws.{both, some-none, is-table, getD-table, length-table, cond-true}
 use Rattle.refusal.specs.Numbers.{SIZE, LENGTH, VERSION}
 use Rattle.refusal.specs.Tests.{test, _then_}
 use Rattle.refusal.specs.declared.Verdict.{Verdict}
 use Rattle.refusal.proofs.Laws.{test-fine, after-fine}
 use Rattle.links.specs.Order.{stands}
-use Rattle.rows.specs.Entry.{rankOf, joinsOf, entryOf}
+use Rattle.rows.specs.Entry.{rankOf, entryOf}
 use Rattle.rows.specs.Rooms.{part, rowAt}
 use Rattle.rows.proofs.Laws.{Sound, entry-of-parts, getD-part, length-part, row-inside}
-use Rattle.file.specs.Bits.{fieldAt, bitLen, byteLen, padLen}
-use Rattle.file.specs.Layout.{fileFields, fileOf, Stored, stored, Same}
-use Rattle.file.specs.Reader.{shortTest, fieldTest, headerTest, framesOf, stopOf, frameAt, orderFieldTest, orderFrom, entriesFrom, rowTest, behind, whole, goOn, rowsFrom, rowsOf, endTest, bodyTest, widthFits, lengthsFit, readTest, rowBit, countAt, entryAt, labelAt, orderRead, labelsRead, countsRead, Outcome, outcome, filledIn, readOf}
-use Rattle.file.specs.Writer.{Fit, wrote, writeOf}
+use Rattle.file.specs.Bits.{fieldAt, bitLen, byteLen}
+use Rattle.file.specs.Layout.{fileFields, fileOf, stored, Same}
+use Rattle.file.specs.Reader.{shortTest, headerTest, framesOf, stopOf, frameAt, orderFrom, entriesFrom, rowTest, behind, whole, goOn, rowsFrom, rowsOf, bodyTest, widthFits, lengthsFit, readTest, rowBit, countAt, entryAt, labelAt, orderRead, labelsRead, countsRead, Outcome, outcome, filledIn, readOf}
+use Rattle.file.specs.Writer.{wrote, writeOf}
 use Rattle.file.specs.declared.Opened.{Opened}
 use Rattle.file.specs.declared.Whole.{Whole}
 use Rattle.file.specs.declared.Written.{Written}
 use Rattle.file.proofs.Fields.{order-legal, entry-legal, row-entries, end-fine, body-end}
 use Rattle.file.proofs.Fit.{fit-order, fit-count, fit-row, fit-length}
-use Rattle.file.proofs.ReadBack.{Holds, file-holds, version-found, frames-found, stop-found, spare-found, frame-found, count-field, count-found, entry-found, next-bit, row-end, last-end, order-fits}
+use Rattle.file.proofs.ReadBack.{Holds, file-holds, version-found, frames-found, stop-found, spare-found, frame-found, count-field, count-found, entry-found, row-end, last-end, order-fits}
 use Rattle.file.proofs.Steps.{short-fine, field-fine}
 use Rattle.file.proofs.Writing.{Done, write-done, done-file}
 

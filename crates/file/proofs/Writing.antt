@@ -1,12 +1,11 @@
 -- The writer's outcome by cases: refused by a test on the index, refused for want of room, written.
-use Prim.Native.Nat.{ℕ, zero, suc, _+_, _-_, _*_, _/_, _^_, _≤_, _<_}
-use mathlib.Core.Path.{_≡_, refl, sym, ap, ap₂, subst, _∙_}
-use mathlib.Core.Bool.{Bool, true, false, _&&_}
-use mathlib.Core.List.{List, [], _∷_, _++_}
+use Prim.Native.Nat.{ℕ, _+_, _-_, _≤_, _<_}
+use mathlib.Core.Path.{_≡_, refl, sym, ap, ap₂, _∙_}
+use mathlib.Core.Bool.{Bool, true, false}
+use mathlib.Core.List.{List, _++_}
 use native.Mathlib.Omega.{arith}
 use borrow.Author.Tests.{le-leb, lt-leb, leb-true}
 use lib.ListN.{length, take, drop}
-use lib.Dec.{leb}
 use lib.Seq.{drop-drop, take-at, drop-at, length-take-le}
 use Rattle.basics.proofs.Laws.{both, both-true}
 use Rattle.refusal.specs.Numbers.{OUT}

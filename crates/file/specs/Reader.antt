@@ -1,6 +1,6 @@
 -- The reader of the index file, in the paper's words: the tests in their order, each field at its first bit, and what the
 -- rooms hold afterwards. `s` is the byte string, n the frames and k the stop that its header gives, w the width of the call.
-use Prim.Native.Nat.{ℕ, zero, suc, _+_, _*_, _/_, _%_, _^_, _≤_}
+use Prim.Native.Nat.{ℕ, zero, suc, _+_, _*_, _/_, _%_}
 use mathlib.Core.Bool.{Bool, true, false, cond, not, _&&_}
 use mathlib.Core.List.{List}
 use lib.ListN.{length}
@@ -16,17 +16,6 @@ use Rattle.file.specs.declared.Whole.{Whole}
 use Rattle.file.specs.Bits.{fieldAt, byteLen, padLen}
 
 -- ---- one field
-
--- a field of a file: at most 16 bits, and far from the bits that a number cannot count
-pub record Near (p width : ℕ) : Type 0 where
-  pub narrow : width ≤ 16
-  pub near : p ≤ 2 ^ 32
-
--- a field whose bytes are there
-pub record Inside (s : List ℕ) (p width : ℕ) : Type 0 where
-  pub narrow : width ≤ 16
-  pub near : p ≤ 2 ^ 32
-  pub there : byteLen (p + width) ≤ length s
 
 -- 10: bytes end inside a field; its first bit
 unfoldable pub shortTest : List ℕ → ℕ → ℕ → Verdict

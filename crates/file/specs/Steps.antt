@@ -1,13 +1,29 @@
--- What one step of the reader hands to the next.
-use Prim.Native.Nat.{ℕ, _<_}
+-- What one step of the reader asks, and what it hands to the next.
+use Prim.Native.Nat.{ℕ, _+_, _^_, _≤_, _<_}
 use mathlib.Core.Path.{_≡_}
 use mathlib.Core.Bool.{Bool, false}
 use mathlib.Core.List.{List}
 use lib.ListN.{length, getD}
 use Rattle.links.specs.Order.{stands}
+use Rattle.file.specs.Bits.{byteLen}
 use Rattle.file.specs.Reader.{frameAt}
 use Rattle.refusal.specs.declared.Verdict.{Verdict}
 use Rattle.file.specs.declared.get.Step.{Step}
+
+-- ---- what a step asks
+
+-- a field of a file: at most 16 bits, and far from the bits that a number cannot count
+pub record Near (p width : ℕ) : Type 0 where
+  pub narrow : width ≤ 16
+  pub near : p ≤ 2 ^ 32
+
+-- a field whose bytes are there
+pub record Inside (s : List ℕ) (p width : ℕ) : Type 0 where
+  pub narrow : width ≤ 16
+  pub near : p ≤ 2 ^ 32
+  pub there : byteLen (p + width) ≤ length s
+
+-- ---- what it hands on
 
 -- a number to go on with where the tests are fine, else their refusal
 unfoldable pub step : Verdict → ℕ → Step

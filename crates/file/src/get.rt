@@ -5,8 +5,8 @@ use refusal::Verdict;
 ghost use mathlib.Core.Path.{_≡_};
 ghost use Rattle.refusal.specs.Tests.{refusal};
 ghost use Rattle.file.specs.Bits.{fieldAt};
-ghost use Rattle.file.specs.Reader.{Near, Inside, shortTest};
-ghost use Rattle.file.specs.Steps.{step, verdictOf};
+ghost use Rattle.file.specs.Reader.{shortTest};
+ghost use Rattle.file.specs.Steps.{Near, Inside, step, verdictOf};
 
 // A number to go on with, or the refusal.
 pub enum Step {

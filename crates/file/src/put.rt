@@ -3,10 +3,8 @@
 use crate::widths;
 use rows::entry;
 use rows::entry::Entry;
-ghost use mathlib.Core.Path.{_≡_};
 ghost use mathlib.Core.List.{[], _∷_};
 ghost use Prim.Native.Nat.{_+_, _-_, _*_, _≤_, _<_};
-ghost use lib.ListN.{length};
 ghost use Rattle.file.specs.Bits.{field};
 ghost use Rattle.file.specs.Layout.{headerFields, orderFields, entryFields, rowFields, rowsFields};
 ghost use Rattle.file.specs.Pen.{Ready, Put, RowIn, RowsIn, Closed};
@@ -24,8 +22,10 @@ pub fn put(out: &mut [u8], pen: Pen, value: usize, width: usize) -> Pen
     ensures { λ r. ⌜ Put (now (out .entry)) pen (field value width ∷ []) (now (out .exit)) r ⌝ }
 {
     let mut at = pen.at;
-    let mut acc = (pen.acc << width) + value;
-    let mut nb = pen.nb + width;
+    let held = pen.acc;
+    let waiting = pen.nb;
+    let mut acc = (held << width) + value;
+    let mut nb = waiting + width;
     while 8 <= nb {
         nb -= 8;
         let top = acc >> nb;
@@ -52,14 +52,14 @@ pub fn put_entries(out: &mut [u8], pen: Pen, row: &[Entry]) -> Pen
     requires { ⌜ Ready (now out) pen (entryFields (now row)) ⌝ }
     ensures { λ r. ⌜ Put (now (out .entry)) pen (entryFields (now (row .entry))) (now (out .exit)) r ⌝ }
 {
-    let mut now_at = pen;
+    let mut tip = pen;
     let mut i = 0;
     while i < row.len() {
         let e = row[i];
-        now_at = put_entry(out, now_at, e);
+        tip = put_entry(out, tip, e);
         i += 1;
     }
-    now_at
+    tip
 }
 
 // Puts the order: a field for each frame number.
@@ -67,14 +67,14 @@ pub fn put_order(out: &mut [u8], pen: Pen, order: &[u32]) -> Pen
     requires { ⌜ Ready (now out) pen (orderFields (now order)) ⌝ }
     ensures { λ r. ⌜ Put (now (out .entry)) pen (orderFields (now (order .entry))) (now (out .exit)) r ⌝ }
 {
-    let mut now_at = pen;
+    let mut tip = pen;
     let mut rank = 0;
     while rank < order.len() {
         let frame = order[rank] as usize;
-        now_at = put(out, now_at, frame, widths::FRAME_BITS);
+        tip = put(out, tip, frame, widths::FRAME_BITS);
         rank += 1;
     }
-    now_at
+    tip
 }
 
 // Puts the header: version, n - 1, k, spare.
@@ -119,13 +119,13 @@ pub fn put_rows(
     requires { ⌜ Ready (now out) pen (rowsFields w (now labels) (now counts) 0 n) × RowsIn n w (now labels) (now counts) ⌝ }
     ensures { λ r. ⌜ Put (now (out .entry)) pen (rowsFields w (now (labels .entry)) (now (counts .entry)) 0 n) (now (out .exit)) r ⌝ }
 {
-    let mut now_at = pen;
+    let mut tip = pen;
     let mut v = 0;
     while v < n {
-        now_at = put_row(out, now_at, w, labels, counts, v);
+        tip = put_row(out, tip, w, labels, counts, v);
         v += 1;
     }
-    now_at
+    tip
 }
 
 // Fills the last byte up with zero bits.

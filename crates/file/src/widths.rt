@@ -16,7 +16,11 @@ pub const RANK_BITS: usize = 12;
 
 pub const JOINS_BITS: usize = 12;
 
-// What stands before the order, and an entry.
-pub const HEADER_BITS: usize = 32;
+// What stands before the order.
+pub const HEADER_BITS: usize = VERSION_BITS + FRAMES_BITS + STOP_BITS + SPARE_BITS;
 
-pub const ENTRY_BITS: usize = 24;
+// What a frame takes: its place in the order and its count.
+pub const EACH_FRAME_BITS: usize = FRAME_BITS + COUNT_BITS;
+
+// What an entry takes.
+pub const ENTRY_BITS: usize = RANK_BITS + JOINS_BITS;

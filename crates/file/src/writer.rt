@@ -8,6 +8,7 @@ ghost use Rattle.file.specs.Layout.{fileOf};
 ghost use Rattle.file.specs.Writer.{indexSizes, indexLengths, writeTests, Fit};
 use crate::put;
 use crate::put::Pen;
+use crate::widths;
 use links;
 use refusal;
 use refusal::Refusal;
@@ -101,8 +102,8 @@ pub fn size(n: usize, counts: &[u32]) -> usize
     ensures { λ r. ⌜ r ≡ 4 + (21 * n + 24 * sum (now (counts .entry)) + 7) / 8 ⌝ }
 {
     let entries = total(counts);
-    let bits = 21 * n + 24 * entries;
-    4 + (bits + 7) / 8
+    let bits = widths::EACH_FRAME_BITS * n + widths::ENTRY_BITS * entries;
+    widths::HEADER_BITS / 8 + (bits + 7) / 8
 }
 
 // Puts the whole file into a stretch of just its length.

@@ -1,12 +1,9 @@
-use Prim.Native.Nat.{ℕ, zero, suc, _+_, _-_, _*_, _/_, _%_, _^_, _≤_, _<_}
-use mathlib.Core.Path.{_≡_, refl, sym, ap, subst, _∙_}
-use mathlib.Core.List.{List, [], _∷_, _++_}
-use mathlib.Core.Logic.{_⊎_, inl, inr, ⊎-elim}
-use mathlib.Core.Bool.{Bool, true, false}
+-- `header` goes by the cases of its test, field by field; what it answers is told by the same tests.
+use Prim.Native.Nat.{ℕ, _+_, _≤_}
+use mathlib.Core.Path.{_≡_, sym, ap, _∙_}
 use native.Mathlib.Omega.{arith}
-use lib.ListN.{length, getD, set, take, drop, length-set}
 use borrow.Author.Needs.{needs}
-use Rattle.file.specs.Bits.{byteLen}
+use Rattle.file.specs.Bits.{fieldAt, byteLen}
 use Rattle.file.specs.Reader.{framesOf, stopOf, headerOf}
 use mathlib.Core.Path.{ap₂}
 use Rattle.file.specs.declared.Opened.{Opened}
@@ -14,10 +11,6 @@ use Rattle.file.proofs.Heading.{opened-fine, opened-refused, answered, 
 use Rattle.file.proofs.Bits.{field-lt}
 use Rattle.file.proofs.header.Statement.{statement}
 use Rattle.file.proofs.header.Tie as tie
-use Rattle.file.proofs.header.Reads as reads
-use Rattle.file.proofs.header.Lts as lts
-use Rattle.file.proofs.get.closed.Reads as closed-reads
-use Rattle.file.proofs.get.get.Reads as get-reads
 
 closed-requires : tie.Need-closed-requires
 closed-requires c κs = search needs
@@ -35,30 +28,46 @@ closed-requires-2 c κs = search needs
 
 returns-2 : tie.Need-returns-2
 unfolding framesOf stopOf headerOf
-returns-2 c = answered _ _ _ (c .closed2 .ensures ∙ opened-refused _ _ (version-other _ (c .before .before .before .if1 .left) (λ e. c .before .if2 .taken (c .before .before .get .ensures ∙ e))))
+returns-2 c =
+    answered _ _ _ (c .closed2 .ensures ∙ opened-refused _ _ (version-other _ (c .before .before .before .if1 .left) (λ e.
+    c .before .if2 .taken (c .before .before .get .ensures ∙ e))))
+
+-- the version is 1
+version : (c : tie.Else2) → fieldAt (c .before .before .before .before .args .bytes .now) 0 4 ≡ 1
+version c = sym (c .before .get .ensures) ∙ c .if2 .left
 
 closed-requires-3 : tie.Need-closed-requires-3
 closed-requires-3 c κs = search needs
 
 returns-3 : tie.Need-returns-3
 unfolding framesOf stopOf headerOf
-returns-3 c = answered _ _ _ (c .closed3 .ensures
-    ∙ opened-refused _ _ (frames-short _ (c .before .before .before .before .if1 .left) (sym (c .before .before .before .get .ensures) ∙ c .before .before .if2 .left) (c .before .if3 .taken)))
+returns-3 c =
+    answered _ _ _
+    (c .closed3 .ensures ∙ opened-refused _ _ (frames-short _ (c .before .before .before .before .if1 .left) (version
+    (c .before .before)) (c .before .if3 .taken)))
 
 closed-requires-4 : tie.Need-closed-requires-4
 closed-requires-4 c κs = search needs
 
 returns-4 : tie.Need-returns-4
 unfolding framesOf stopOf headerOf
-returns-4 c = answered _ _ _ (c .closed4 .ensures
-    ∙ opened-refused _ _ (stop-short _ (c .before .before .if3 .left) (sym (c .before .before .before .before .get .ensures) ∙ c .before .before .before .if2 .left) (c .before .if4 .taken)))
+returns-4 c =
+    answered _ _ _
+    (c .closed4 .ensures ∙ opened-refused _ _ (stop-short _ (c .before .before .if3 .left) (version
+    (c .before .before .before)) (c .before .if4 .taken)))
 
 get-requires-2 : tie.Need-get-requires-2
 unfolding byteLen
 get-requires-2 c κs = record { narrow = omega arith; near = omega arith; there = omega arith }
 
 add-n : tie.Need-add-n
-add-n c = omega (arith, c .get2 .ensures, field-lt (c .before .before .before .before .before .before .before .args .bytes .now) 4 12)
+add-n c =
+    omega (
+      arith,
+      c .get2 .ensures,
+      field-lt (c .before .before .before .before .before .before .before .args .bytes .now) 4
+          12,
+    )
 
 get-requires-3 : tie.Need-get-requires-3
 unfolding byteLen
@@ -69,31 +78,48 @@ closed-requires-5 c κs = search needs
 
 returns-5 : tie.Need-returns-5
 unfolding framesOf stopOf headerOf
-returns-5 c = answered _ _ _ (c .closed5 .ensures
+returns-5 c =
+    answered _ _ _
+    (c .closed5 .ensures
     ∙ opened-refused _ _
-    (stop-over _ (c .before .before .before .before .if4 .left) (sym (c .before .before .before .before .before .before .before .get .ensures) ∙ c .before .before .before .before .before .before .if2 .left)
+    (stop-over _ (c .before .before .before .before .if4 .left) (version
+    (c .before .before .before .before .before .before))
     (omega (arith, c .before .if5 .taken, c .before .before .get3 .ensures, c .before .before .before .get2 .ensures))))
 
 get-requires-4 : tie.Need-get-requires-4
 unfolding byteLen
 get-requires-4 c κs = record { narrow = omega arith; near = omega arith; there = omega arith }
 
+-- the stop is at most n
+stop-in : (c : tie.Else5) → stopOf
+    (c .before .before .before .before .before .before .before .before .before .args .bytes .now) ≤ framesOf
+    (c .before .before .before .before .before .before .before .before .before .args .bytes .now)
+unfolding framesOf stopOf
+stop-in c = omega (arith, c .if5 .left, c .before .get3 .ensures, c .before .before .get2 .ensures)
+
 closed-requires-6 : tie.Need-closed-requires-6
 closed-requires-6 c κs = search needs
 
 returns-6 : tie.Need-returns-6
 unfolding framesOf stopOf headerOf
-returns-6 c = answered _ _ _ (c .closed6 .ensures
+returns-6 c =
+    answered _ _ _
+    (c .closed6 .ensures
     ∙ opened-refused _ _
-    (spare-set _ (c .before .before .before .before .before .before .if4 .left) (sym (c .before .before .before .before .before .before .before .before .before .get .ensures) ∙ c .before .before .before .before .before .before .before .before .if2 .left)
-    (omega (arith, c .before .before .before .if5 .left, c .before .before .before .before .get3 .ensures, c .before .before .before .before .before .get2 .ensures)) (λ e. c .before .if6 .taken (c .before .before .get4 .ensures ∙ e))))
+    (spare-set _ (c .before .before .before .before .before .before .if4 .left) (version
+    (c .before .before .before .before .before .before .before .before)) (stop-in (c .before .before .before)) (λ e.
+    c .before .if6 .taken (c .before .before .get4 .ensures ∙ e))))
 
 returns-7 : tie.Need-returns-7
 unfolding framesOf stopOf headerOf
-returns-7 c = answered _ _ _ (ap₂ Opened.Index (ap (λ (x : ℕ). x + 1) (c .before .before .before .before .get2 .ensures)) (c .before .before .before .get3 .ensures)
+returns-7 c =
+    answered _ _ _
+    (ap₂ Opened.Index (ap (λ (x : ℕ). x + 1) (c .before .before .before .before .get2 .ensures))
+    (c .before .before .before .get3 .ensures)
     ∙ opened-fine _ _
-    (header-fine _ (c .before .before .before .before .before .if4 .left) (sym (c .before .before .before .before .before .before .before .before .get .ensures) ∙ c .before .before .before .before .before .before .before .if2 .left)
-    (omega (arith, c .before .before .if5 .left, c .before .before .before .get3 .ensures, c .before .before .before .before .get2 .ensures)) (sym (c .before .get4 .ensures) ∙ c .if6 .left)))
+    (header-fine _ (c .before .before .before .before .before .if4 .left) (version
+    (c .before .before .before .before .before .before .before)) (stop-in (c .before .before)) (sym
+    (c .before .get4 .ensures) ∙ c .if6 .left)))
 
 pub header-spec : {M : Type 1} → statement M
 header-spec =

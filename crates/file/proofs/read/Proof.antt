@@ -1,20 +1,11 @@
-use Prim.Native.Nat.{ℕ, zero, suc, _+_, _-_, _*_, _/_, _%_, _^_, _≤_, _<_}
-use mathlib.Core.Path.{_≡_, refl, sym, ap, subst, _∙_}
-use mathlib.Core.List.{List, [], _∷_, _++_}
-use mathlib.Core.Logic.{_⊎_, inl, inr, ⊎-elim}
-use mathlib.Core.Bool.{Bool, true, false}
-use native.Mathlib.Omega.{arith}
-use lib.ListN.{length, getD, set, take, drop, length-set}
+-- `read`: a refused file leaves the rooms alone; a file whose tests are fine has all that the storing pass asks, and rooms
+-- filled to their ends are what the definition says.
+use mathlib.Core.Path.{sym, _∙_}
 use borrow.Author.Needs.{needs}
 use Rattle.file.proofs.Reader.{readable, stores-order, stores-rows, read-refused, read-fine}
 use Rattle.file.proofs.Heading.{answered, index-is, refused-is}
 use Rattle.file.proofs.read.Statement.{statement}
 use Rattle.file.proofs.read.Tie as tie
-use Rattle.file.proofs.read.Reads as reads
-use Rattle.file.proofs.read.Lts as lts
-use Rattle.file.proofs.check.file.Reads as file-reads
-use Rattle.file.proofs.store.order.Reads as order-reads
-use Rattle.file.proofs.store.rows.Reads as rows-reads
 
 file-requires : tie.Need-file-requires
 file-requires c κs = search needs
@@ -26,16 +17,21 @@ enum-told : tie.Need-enum-told
 enum-told c = search needs
 
 returns : tie.Need-returns
-returns c = let e = c .before .before .file .ensures in
+returns c =
+    let e = c .before .before .file .ensures in
     let g = c .enum-told .given .1 in
     (read-refused _ _ _ _ _ g (refused-is _ _ _ (sym g ∙ e)), answered _ _ _ e .1)
 
 order-requires : tie.Need-order-requires
-order-requires c κs = let (e, p, q) = index-is _ _ _ (sym (c .before .before .opened .given .1) ∙ c .before .before .before .before .file .ensures) in
+order-requires c κs =
+    let (e, p, q) = index-is _ _ _ (sym (c .before .before .opened .given .1) ∙
+    c .before .before .before .before .file .ensures) in
     stores-order (readable _ _ _ _ _ e) p
 
 rows-requires : tie.Need-rows-requires
-rows-requires c κs = let (e, p, q) = index-is _ _ _ (sym (c .before .before .before .before .before .before .before .opened .given .1) ∙ c .before .before .before .before .before .before .before .before .before .file .ensures) in
+rows-requires c κs =
+    let (e, p, q) = index-is _ _ _ (sym (c .before .before .before .before .before .before .before .opened .given .1) ∙
+    c .before .before .before .before .before .before .before .before .before .file .ensures) in
     stores-rows (readable _ _ _ _ _ e) p
 
 same-length : tie.Need-same-length
@@ -48,9 +44,17 @@ same-length-3 : tie.Need-same-length-3
 same-length-3 c = search needs
 
 returns-2 : tie.Need-returns-2
-returns-2 c = let at = sym (c .before .before .before .before .before .before .before .before .before .before .before .before .opened .given .1) ∙ c .before .before .before .before .before .before .before .before .before .before .before .before .before .before .file .ensures in
-    let (e, p, q) = index-is _ _ _ at in
-    (read-fine _ _ _ _ _ e p q (c .before .before .before .before .before .before .before .before .before .order .ensures) (c .before .before .before .before .rows .ensures .0) (c .before .before .before .before .rows .ensures .1), answered _ _ _ at .1)
+returns-2 c =
+    let at = sym
+    (c .before .before .before .before .before .before .before .before .before .before .before .before .opened .given .1) ∙
+    c .before .before .before .before .before .before .before .before .before .before .before .before .before .before .file .ensures
+    in
+    let (e, p, q) = index-is _ _ _ at in (
+      read-fine _ _ _ _ _ e p q (c .before .before .before .before .before .before .before .before .before .order .ensures)
+          (c .before .before .before .before .rows .ensures .0) (c .before .before .before .before .rows .ensures .1),
+      answered _
+          _ _ at .1,
+    )
 
 pub read-spec : {M : Type 1} → statement M
 read-spec =

@@ -1,19 +1,17 @@
 -- The writer: each refusal as its test gives it, and the file put into the part of the room that is lent to `fill`; what lies
 -- before and behind that part comes back as it was.
-use Prim.Native.Nat.{ℕ, zero, suc, _+_, _-_, _*_, _/_, _≤_, _<_}
-use mathlib.Core.Path.{_≡_, refl, sym, ap, ap₂, subst, _∙_}
-use mathlib.Core.List.{List, [], _∷_, _++_}
+use Prim.Native.Nat.{ℕ, _+_, _-_, _≤_}
+use mathlib.Core.Path.{_≡_, sym, ap, ap₂, subst, _∙_}
+use mathlib.Core.List.{List, _++_}
 use native.Mathlib.Omega.{arith}
 use native.Mathlib.Nat.{add-sub-cancel-left, lt-of-lt-of-le, le-of-eq, le-trans}
 use borrow.Author.Needs.{needs}
 use denote.Ref.{now}
 use lib.ListN.{length, take, drop, length-drop}
 use lib.Seq.{length-take-le}
-use Rattle.basics.specs.Places.{sum}
-use Rattle.refusal.specs.declared.Verdict.{Verdict}
-use Rattle.refusal.specs.declared.Verdict.the-variants.{Fine, Refused}
+use Rattle.refusal.specs.declared.Verdict.the-variants.{Fine}
 use Rattle.file.specs.Layout.{fileOf}
-use Rattle.file.specs.Writer.{writeTests, outTest, wrote, Fit}
+use Rattle.file.specs.Writer.{writeTests, wrote, Fit}
 use Rattle.file.specs.declared.Written.{Written}
 use Rattle.file.proofs.Fit.{fit, file-bytes}
 use Rattle.file.proofs.Writing.{out-before, out-short, out-fits, write-refused, write-out, write-filled, put-back}

@@ -43,15 +43,15 @@ slice-read-v : tie.Need-slice-read-v Inv-loop μ-loop
 slice-read-v c = omega arith
 
 cast-v : tie.Need-cast-v Inv-loop μ-loop
-cast-v c = omega (arith, c .slice-known .given (c .before .before .loop .i))
+cast-v c = omega (arith, c .slice-known .given (c .before .before .loop .at))
 
 -- the frame at i lies in the met room
-low : (c : tie.After-slice-known Inv-loop μ-loop) → getD (c .before .before .loop .queue) (c .before .before .loop .i) 0 < length (c .before .before .loop .met)
+low : (c : tie.After-slice-known Inv-loop μ-loop) → getD (c .before .before .loop .queue) (c .before .before .loop .at) 0 < length (c .before .before .loop .met)
 low c =
     omega (
       arith,
-      c .before .before .loop .inv .5 (c .before .before .loop .i) (omega arith),
-      c .before .before .before .pre .low (c .before .before .loop .i) (c .before .loop-test .taken),
+      c .before .before .loop .inv .5 (c .before .before .loop .at) (omega arith),
+      c .before .before .before .pre .low (c .before .before .loop .at) (c .before .loop-test .taken),
       c .before .before .loop .inv .1,
     )
 
@@ -67,8 +67,8 @@ mul-queue c = omega arith
 slice-write-queue : tie.Need-slice-write-queue Inv-loop μ-loop
 slice-write-queue c = omega arith
 
-add-i : tie.Need-add-i Inv-loop μ-loop
-add-i c = omega arith
+add-at : tie.Need-add-at Inv-loop μ-loop
+add-at c = omega arith
 
 loop-less : tie.Need-loop-less Inv-loop μ-loop
 loop-less c = omega arith
@@ -77,7 +77,7 @@ loop-again : tie.Need-loop-again Inv-loop μ-loop
 loop-again c =
     let met = c .before .before .loop .met in
     let queue = c .before .before .loop .queue in
-    let i = c .before .before .loop .i in
+    let i = c .before .before .loop .at in
     let here : getD queue i 0 ≡ getD (c .before .before .before .args .queue .now) i 0 = c .before .before .loop .inv .5 i (omega arith) in (
       omega arith,
       length-set met (getD queue i 0) 0 ∙ c .before .before .loop .inv .1,
@@ -110,7 +110,7 @@ returns c =
           ∙ sym (getD-replicate n v 0 0 (omega (arith, c .before .loop .inv .1)))),
       ext-getD 0 (c .before .loop .queue) (replicate n 0) (c .before .loop .inv .2 ∙ c .before .before .pre .long ∙ sym (length-replicate n 0))
           (λ j h.
-          by-cases (native.Mathlib.Decide.decLt j (c .before .loop .i)) (c .before .loop .inv .4 j)
+          by-cases (native.Mathlib.Decide.decLt j (c .before .loop .at)) (c .before .loop .inv .4 j)
           (λ g. c .before .loop .inv .5 j (omega arith) ∙ c .before .before .pre .rest j (omega arith))
           ∙ sym (getD-replicate n j 0 0 (omega (arith, c .before .loop .inv .2, c .before .before .pre .long)))),
     )
@@ -129,7 +129,7 @@ clean-spec =
     slice-write-met
     mul-queue
     slice-write-queue
-    add-i
+    add-at
     loop-less
     loop-again
     same-length

@@ -4,7 +4,6 @@ use Prim.Native.Nat.{ℕ, _+_, _-_, _*_, _≤_, _<_}
 use mathlib.Core.Path.{_≡_, refl, sym, ap, _∙_}
 use mathlib.Core.Bool.{Bool, true, false}
 use native.Mathlib.Omega.{arith}
-use borrow.Author.Needs.{needs}
 use borrow.Author.Count.{below-more}
 use lib.ListN.{length, getD}
 use Rattle.build.specs.Settle.{lacksRoom}
@@ -29,31 +28,31 @@ shared-slice-read-v : tie.Need-shared-slice-read-v Inv-loop μ-loop
 shared-slice-read-v c = omega arith
 
 cast-v : tie.Need-cast-v Inv-loop μ-loop
-cast-v c = omega (arith, c .shared-slice-known4 .given (c .before .before .loop .i))
+cast-v c = omega (arith, c .shared-slice-known4 .given (c .before .before .loop .at))
 
 mul-lacks-room : tie.Need-mul-lacks-room Inv-loop μ-loop
-mul-lacks-room c = omega (arith, c .before .before .before .before .before .before .pre .1 .low (c .before .before .loop .i) (c .before .loop-test .taken))
+mul-lacks-room c = omega (arith, c .before .before .before .before .before .before .pre .1 .low (c .before .before .loop .at) (c .before .loop-test .taken))
 
 shared-slice-read-lacks-room : tie.Need-shared-slice-read-lacks-room Inv-loop μ-loop
-shared-slice-read-lacks-room c = omega (arith, c .before .before .before .before .before .before .before .pre .1 .low (c .before .before .before .loop .i) (c .before .before .loop-test .taken))
+shared-slice-read-lacks-room c = omega (arith, c .before .before .before .before .before .before .before .pre .1 .low (c .before .before .before .loop .at) (c .before .before .loop-test .taken))
 
 mul-lacks-room-2 : tie.Need-mul-lacks-room-2 Inv-loop μ-loop
-mul-lacks-room-2 c = omega (arith, c .before .before .before .before .before .before .before .pre .1 .low (c .before .before .before .loop .i) (c .before .before .loop-test .taken))
+mul-lacks-room-2 c = omega (arith, c .before .before .before .before .before .before .before .pre .1 .low (c .before .before .before .loop .at) (c .before .before .loop-test .taken))
 
 shared-slice-read-lacks-room-2 : tie.Need-shared-slice-read-lacks-room-2 Inv-loop μ-loop
-shared-slice-read-lacks-room-2 c = omega (arith, c .before .before .before .before .before .before .before .before .pre .1 .low (c .before .before .before .before .loop .i) (c .before .before .before .loop-test .taken))
+shared-slice-read-lacks-room-2 c = omega (arith, c .before .before .before .before .before .before .before .before .pre .1 .low (c .before .before .before .before .loop .at) (c .before .before .before .loop-test .taken))
 
 lacks-room-requires : tie.Need-lacks-room-requires Inv-loop μ-loop
-lacks-room-requires c κs = search needs
+lacks-room-requires c κs = c .before .before .before .before .before .before .before .before .pre .1 .marked (c .before .before .before .before .loop .at) (c .before .before .before .loop-test .taken)
 
 returns : tie.Need-returns Inv-loop μ-loop
 returns c =
     sym
     (fits-not (c .before .before .before .before .before .before .before .before .before .before .args .w) (c .before .before .before .before .before .before .before .before .before .before .args .counts .now) (c .before .before .before .before .before .before .before .before .before .before .args .met .now) (c .before .before .before .before .before .before .before .before .before .before .args .queue .now) (c .before .before .before .before .before .before .before .before .before .before .args .tail)
-    (c .before .before .before .before .before .before .before .before .before .before .pre .1) (c .before .before .before .before .before .before .loop .i) (c .before .before .before .before .before .loop-test .taken) (sym (c .before .lacks-room .ensures) ∙ c .if1 .taken))
+    (c .before .before .before .before .before .before .before .before .before .before .pre .1) (c .before .before .before .before .before .before .loop .at) (c .before .before .before .before .before .loop-test .taken) (sym (c .before .lacks-room .ensures) ∙ c .if1 .taken))
 
-add-i : tie.Need-add-i Inv-loop μ-loop
-add-i c = omega arith
+add-at : tie.Need-add-at Inv-loop μ-loop
+add-at c = omega arith
 
 loop-less : tie.Need-loop-less Inv-loop μ-loop
 loop-less c = omega arith
@@ -87,7 +86,7 @@ fits-spec =
     shared-slice-read-lacks-room-2
     lacks-room-requires
     returns
-    add-i
+    add-at
     loop-less
     loop-again
     returns-2)

@@ -1,4 +1,4 @@
--- Not met or dropped: nothing is stored. Kept: the row has room, so its next place lies in the label room.
+-- Dropped: nothing is stored. Kept: the row has room, so its next place lies in the label room.
 use Prim.Native.Nat.{ℕ, _+_, _-_, _*_, _≤_, _<_}
 use mathlib.Core.Path.{_≡_, refl, sym, ap, _∙_}
 use mathlib.Core.Bool.{Bool, true, false, cond}
@@ -10,36 +10,34 @@ use Rattle.rows.specs.Entry.{entryOf}
 use Rattle.basics.proofs.Laws.{cond-true, cond-false}
 use Rattle.build.specs.Settle.{isKept}
 use Rattle.build.proofs.RoomLaws.{row-place}
-use Rattle.build.proofs.RoomMarks.{kept-mark, unmet-mark, dropped-mark}
+use Rattle.build.proofs.RoomMarks.{kept-mark, dropped-mark}
 use Rattle.build.proofs.settle.give.Statement.{statement}
 use Rattle.build.proofs.settle.give.Tie as tie
 
 returns : tie.Need-returns
 returns c =
-    let no-mark : isKept (c .before .before .before .args .mark) ≡ false = unmet-mark (c .before .before .before .args .mark) (omega arith) in
-    (sym (cond-false _ _ no-mark), sym (cond-false _ _ no-mark))
-
-returns-2 : tie.Need-returns-2
-returns-2 c =
-    let drop-mark : isKept (c .before .before .before .before .args .mark) ≡ false = dropped-mark (c .before .before .before .before .args .mark) (c .if2 .taken) in
+    let drop-mark : isKept (c .before .before .before .args .mark) ≡ false = dropped-mark (c .before .before .before .args .mark) (c .if1 .taken) in
     (sym (cond-false _ _ drop-mark), sym (cond-false _ _ drop-mark))
 
 mul-count : tie.Need-mul-count
 mul-count c = omega arith
 
 slice-read-count : tie.Need-slice-read-count
-slice-read-count c = c .before .before .before .before .before .pre .inside
+slice-read-count c = c .before .before .before .before .pre .inside
 
-is-kept : (c : tie.Else2) → isKept (c .before .before .before .before .args .mark) ≡ true
-is-kept c = kept-mark (c .before .before .before .before .args .mark) (c .before .if1 .left) (c .if2 .left)
+is-kept : (c : tie.Else1) → isKept (c .before .before .before .args .mark) ≡ true
+is-kept c = kept-mark (c .before .before .before .args .mark) (c .before .before .before .pre .met) (c .if1 .left)
 
 -- the place behind the row of v
-inside : (c : tie.Else2)
-    → c .before .before .before .before .args .v * c .before .before .before .before .args .w + getD (c .before .before .before .before .args .counts .now) (c .before .before .before .before .args .v) 0 < length (c .before .before .before .before .args .labels .now)
-inside c = rw (c .before .before .before .before .pre .long) (row-place (c .before .before .before .before .pre .inside) (c .before .before .before .before .pre .room (is-kept c)))
+inside : (c : tie.Else1)
+    → c .before .before .before .args .v * c .before .before .before .args .w + getD (c .before .before .before .args .counts .now) (c .before .before .before .args .v) 0 < length (c .before .before .before .args .labels .now)
+inside c = rw (c .before .before .before .pre .long) (row-place (c .before .before .before .pre .inside) (c .before .before .before .pre .room (is-kept c)))
 
-few : (c : tie.Else2) → getD (c .before .before .before .before .args .counts .now) (c .before .before .before .before .args .v) 0 < 256
-few c = omega (arith, c .before .before .before .before .pre .room (is-kept c))
+few : (c : tie.Else1) → getD (c .before .before .before .args .counts .now) (c .before .before .before .args .v) 0 < 256
+few c = omega (arith, c .before .before .before .pre .room (is-kept c))
+
+sub-level : tie.Need-sub-level
+sub-level c = search needs
 
 cast-level : tie.Need-cast-level
 cast-level c = search needs
@@ -69,7 +67,7 @@ mul-counts : tie.Need-mul-counts
 mul-counts c = omega arith
 
 slice-write-counts : tie.Need-slice-write-counts
-slice-write-counts c = c .before .before .before .before .before .before .pre .inside
+slice-write-counts c = c .before .before .before .before .before .pre .inside
 
 same-length : tie.Need-same-length
 same-length c = search needs
@@ -77,20 +75,20 @@ same-length c = search needs
 same-length-2 : tie.Need-same-length-2
 same-length-2 c = search needs
 
-returns-3 : tie.Need-returns-3
-returns-3 c =
-    let kept : isKept (c .before .before .before .before .before .before .args .mark) ≡ true = is-kept (c .before .before) in
-    let at : ℕ = c .before .before .before .before .before .before .args .v * c .before .before .before .before .before .before .args .w + getD (c .before .before .before .before .before .before .args .counts .now) (c .before .before .before .before .before .before .args .v) 0 in
-    (ap (λ (e : ℕ). set (c .before .before .before .before .before .before .args .labels .now) at e) (c .entry-of .ensures) ∙ sym (cond-true _ _ kept), sym (cond-true _ _ kept))
+returns-2 : tie.Need-returns-2
+returns-2 c =
+    let kept : isKept (c .before .before .before .before .before .args .mark) ≡ true = is-kept (c .before .before) in
+    let at : ℕ = c .before .before .before .before .before .args .v * c .before .before .before .before .before .args .w + getD (c .before .before .before .before .before .args .counts .now) (c .before .before .before .before .before .args .v) 0 in
+    (ap (λ (e : ℕ). set (c .before .before .before .before .before .args .labels .now) at e) (c .entry-of .ensures) ∙ sym (cond-true _ _ kept), sym (cond-true _ _ kept))
 
 pub give-spec : {M : Type 1} → statement M
 give-spec =
     tie.close
     (tie.spec
     returns
-    returns-2
     mul-count
     slice-read-count
+    sub-level
     cast-level
     mul-at
     cast-at
@@ -103,4 +101,4 @@ give-spec =
     slice-write-counts
     same-length
     same-length-2
-    returns-3)
+    returns-2)

@@ -9,7 +9,7 @@ use lib.ListN.{length, getD, set}
 use Rattle.theory.specs.Rows.{Row}
 use Rattle.rows.specs.Entry.{entryOf}
 use Rattle.build.specs.Build.{labelsOf, countsOf}
-use Rattle.build.specs.Settle.{rowsIn, rowsAfter, isKept, SettleIn, labelsAfter, countsAfter}
+use Rattle.build.specs.Settle.{rowsIn, rowsAfter, isKept, SettleIn}
 use Rattle.build.proofs.RoomLaws.{labels-ext, counts-ext, length-labels, length-counts, count-at}
 use Rattle.build.proofs.RoomMarks.{partly, partly-none, still, room-left, labels-step, counts-step, all-turns}
 use Rattle.build.proofs.settle.store.Statement.{statement}
@@ -47,25 +47,26 @@ shared-slice-read-v : tie.Need-shared-slice-read-v Inv-loop μ-loop
 shared-slice-read-v c = omega arith
 
 cast-v : tie.Need-cast-v Inv-loop μ-loop
-cast-v c = omega (arith, c .shared-slice-known3 .given (c .before .before .loop .i))
+cast-v c = omega (arith, c .shared-slice-known3 .given (c .before .before .loop .at))
 
 mul-give : tie.Need-mul-give Inv-loop μ-loop
-mul-give c = omega (arith, c .before .before .before .before .before .before .before .pre .0 .queued .low (c .before .before .loop .i) (c .before .loop-test .taken))
+mul-give c = omega (arith, c .before .before .before .before .before .before .before .pre .0 .queued .low (c .before .before .loop .at) (c .before .loop-test .taken))
 
 shared-slice-read-give : tie.Need-shared-slice-read-give Inv-loop μ-loop
-shared-slice-read-give c = c .before .before .before .before .before .before .before .before .pre .0 .queued .low (c .before .before .before .loop .i) (c .before .before .loop-test .taken)
+shared-slice-read-give c = c .before .before .before .before .before .before .before .before .pre .0 .queued .low (c .before .before .before .loop .at) (c .before .before .loop-test .taken)
 
 give-requires : tie.Need-give-requires Inv-loop μ-loop
 give-requires c κs =
     let a = c .before .before .before .before .before .before .before .before .before .before .args in
     let w = c .before .before .before .before .before .before .before .before .before .before .args .w in
-    let i = c .before .before .before .before .before .loop .i in
+    let i = c .before .before .before .before .before .loop .at in
     let v = getD (c .before .before .before .before .before .before .before .before .before .before .args .queue .now) i 0 in
     let n = length (c .before .before .before .before .before .before .before .before .before .before .args .met .now) in
     let P : ℕ → Row = upto w (c .before .before .before .before .before .before .before .before .before .before .args .rank) (c .before .before .before .before .before .before .before .before .before .before .args .labels .now) (c .before .before .before .before .before .before .before .before .before .before .args .counts .now) (c .before .before .before .before .before .before .before .before .before .before .args .met .now) (c .before .before .before .before .before .before .before .before .before .before .args .queue .now) i in
     let low : v < n = c .before .before .before .before .before .before .before .before .before .before .pre .0 .queued .low i (c .before .before .before .before .loop-test .taken) in
     let long : length (c .before .before .before .before .before .loop .counts) ≡ n = ap length (c .before .before .before .before .before .loop .inv .2) ∙ length-counts n P in
     record {
+      met = c .before .before .before .before .before .before .before .before .before .before .pre .0 .queued .marked (c .before .before .before .before .before .loop .at) (c .before .before .before .before .loop-test .taken);
       inside = omega arith;
       long = ap length (c .before .before .before .before .before .loop .inv .1) ∙ length-labels n w P ∙ ap (λ (k : ℕ). k * w) (sym long);
       width = c .before .before .before .before .before .before .before .before .before .before .pre .0 .width;
@@ -76,8 +77,8 @@ give-requires c κs =
           (room-left w (c .before .before .before .before .before .before .before .before .before .before .args .rank) (c .before .before .before .before .before .before .before .before .before .before .args .labels .now) (c .before .before .before .before .before .before .before .before .before .before .args .counts .now) (c .before .before .before .before .before .before .before .before .before .before .args .met .now) (c .before .before .before .before .before .before .before .before .before .before .args .queue .now) (c .before .before .before .before .before .before .before .before .before .before .args .tail) (c .before .before .before .before .before .before .before .before .before .before .pre .0) (c .before .before .before .before .before .before .before .before .before .before .pre .1) v low kept);
     }
 
-add-i : tie.Need-add-i Inv-loop μ-loop
-add-i c = omega arith
+add-at : tie.Need-add-at Inv-loop μ-loop
+add-at c = omega arith
 
 loop-less : tie.Need-loop-less Inv-loop μ-loop
 loop-less c = omega arith
@@ -87,11 +88,11 @@ loop-again c = (
   omega arith,
   c .before .before .before .before .give .ensures .0
       ∙ labels-step (c .before .before .before .before .before .before .before .before .before .before .before .before .before .before .before .args .w) (c .before .before .before .before .before .before .before .before .before .before .before .before .before .before .before .args .rank) (c .before .before .before .before .before .before .before .before .before .before .before .before .before .before .before .args .labels .now) (c .before .before .before .before .before .before .before .before .before .before .before .before .before .before .before .args .counts .now) (c .before .before .before .before .before .before .before .before .before .before .before .before .before .before .before .args .met .now) (c .before .before .before .before .before .before .before .before .before .before .before .before .before .before .before .args .queue .now) (c .before .before .before .before .before .before .before .before .before .before .before .before .before .before .before .args .tail)
-      (c .before .before .before .before .before .before .before .before .before .before .before .before .before .before .before .pre .0) (c .before .before .before .before .before .before .before .before .before .before .before .before .before .before .before .pre .1) (c .before .before .before .before .before .before .before .before .before .before .loop .i) (c .before .before .before .before .before .before .before .before .before .before .loop .labels) (c .before .before .before .before .before .before .before .before .before .before .loop .counts) (c .before .before .before .before .before .before .before .before .before .loop-test .taken)
+      (c .before .before .before .before .before .before .before .before .before .before .before .before .before .before .before .pre .0) (c .before .before .before .before .before .before .before .before .before .before .before .before .before .before .before .pre .1) (c .before .before .before .before .before .before .before .before .before .before .loop .at) (c .before .before .before .before .before .before .before .before .before .before .loop .labels) (c .before .before .before .before .before .before .before .before .before .before .loop .counts) (c .before .before .before .before .before .before .before .before .before .loop-test .taken)
       (c .before .before .before .before .before .before .before .before .before .before .loop .inv .1) (c .before .before .before .before .before .before .before .before .before .before .loop .inv .2),
   c .before .before .before .before .give .ensures .1
       ∙ counts-step (c .before .before .before .before .before .before .before .before .before .before .before .before .before .before .before .args .w) (c .before .before .before .before .before .before .before .before .before .before .before .before .before .before .before .args .rank) (c .before .before .before .before .before .before .before .before .before .before .before .before .before .before .before .args .labels .now) (c .before .before .before .before .before .before .before .before .before .before .before .before .before .before .before .args .counts .now) (c .before .before .before .before .before .before .before .before .before .before .before .before .before .before .before .args .met .now) (c .before .before .before .before .before .before .before .before .before .before .before .before .before .before .before .args .queue .now) (c .before .before .before .before .before .before .before .before .before .before .before .before .before .before .before .args .tail)
-      (c .before .before .before .before .before .before .before .before .before .before .before .before .before .before .before .pre .0) (c .before .before .before .before .before .before .before .before .before .before .before .before .before .before .before .pre .1) (c .before .before .before .before .before .before .before .before .before .before .loop .i) (c .before .before .before .before .before .before .before .before .before .before .loop .counts) (c .before .before .before .before .before .before .before .before .before .loop-test .taken) (c .before .before .before .before .before .before .before .before .before .before .loop .inv .2),
+      (c .before .before .before .before .before .before .before .before .before .before .before .before .before .before .before .pre .0) (c .before .before .before .before .before .before .before .before .before .before .before .before .before .before .before .pre .1) (c .before .before .before .before .before .before .before .before .before .before .loop .at) (c .before .before .before .before .before .before .before .before .before .before .loop .counts) (c .before .before .before .before .before .before .before .before .before .loop-test .taken) (c .before .before .before .before .before .before .before .before .before .before .loop .inv .2),
 )
 
 same-length : tie.Need-same-length Inv-loop μ-loop
@@ -105,18 +106,17 @@ same-length-2 c =
     ap length (c .before .loop .inv .2) ∙ length-counts _ _ ∙ sym (ap length (c .before .before .before .before .before .before .pre .0 .laid .numbers) ∙ length-counts _ _)
 
 returns : tie.Need-returns Inv-loop μ-loop
-unfolding labelsAfter countsAfter
 returns c =
     let w = c .before .before .before .before .before .before .args .w in
     let n = length (c .before .before .before .before .before .before .args .met .now) in
     let R′ : ℕ → Row = rowsAfter w (c .before .before .before .before .before .before .args .rank) (c .before .before .before .before .before .before .args .labels .now) (c .before .before .before .before .before .before .args .counts .now) (c .before .before .before .before .before .before .args .met .now) in
     let P : ℕ → ℕ → Row = upto w (c .before .before .before .before .before .before .args .rank) (c .before .before .before .before .before .before .args .labels .now) (c .before .before .before .before .before .before .args .counts .now) (c .before .before .before .before .before .before .args .met .now) (c .before .before .before .before .before .before .args .queue .now) in
-    let end : c .before .loop .i ≡ c .before .before .before .before .before .before .args .tail = omega arith in
-    let same : (v : ℕ) → v < n → P (c .before .loop .i) v ≡ R′ v =
+    let end : c .before .loop .at ≡ c .before .before .before .before .before .before .args .tail = omega arith in
+    let same : (v : ℕ) → v < n → P (c .before .loop .at) v ≡ R′ v =
     λ v h. ap (λ (i : ℕ). P i v) end
     ∙ all-turns (c .before .before .before .before .before .before .args .w) (c .before .before .before .before .before .before .args .rank) (c .before .before .before .before .before .before .args .labels .now) (c .before .before .before .before .before .before .args .counts .now) (c .before .before .before .before .before .before .args .met .now) (c .before .before .before .before .before .before .args .queue .now) (c .before .before .before .before .before .before .args .tail) (c .before .before .before .before .before .before .pre .0) (c .before .before .before .before .before .before .pre .1) v h in (
-      c .before .loop .inv .1 ∙ labels-ext n w (P (c .before .loop .i)) R′ (c .before .before .before .before .before .before .pre .0 .wide) same,
-      c .before .loop .inv .2 ∙ counts-ext n (P (c .before .loop .i)) R′ same,
+      c .before .loop .inv .1 ∙ labels-ext n w (P (c .before .loop .at)) R′ (c .before .before .before .before .before .before .pre .0 .wide) same,
+      c .before .loop .inv .2 ∙ counts-ext n (P (c .before .loop .at)) R′ same,
     )
 
 pub store-spec : {M : Type 1} → statement M
@@ -132,7 +132,7 @@ store-spec =
     mul-give
     shared-slice-read-give
     give-requires
-    add-i
+    add-at
     loop-less
     loop-again
     same-length

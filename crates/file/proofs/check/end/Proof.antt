@@ -1,20 +1,11 @@
-use Prim.Native.Nat.{ℕ, zero, suc, _+_, _-_, _*_, _/_, _%_, _^_, _≤_, _<_}
-use mathlib.Core.Path.{_≡_, refl, sym, ap, subst, _∙_}
-use mathlib.Core.List.{List, [], _∷_, _++_}
-use mathlib.Core.Logic.{_⊎_, inl, inr, ⊎-elim}
-use mathlib.Core.Bool.{Bool, true, false}
+-- `end` goes by the cases of its test: a fill bit set, bytes left, or neither.
+use mathlib.Core.Path.{sym, _∙_}
 use native.Mathlib.Omega.{arith}
-use lib.ListN.{length, getD, set, take, drop, length-set}
 use borrow.Author.Needs.{needs}
 use Rattle.file.specs.Bits.{byteLen, padLen}
-use Rattle.file.proofs.Packed.{pad-len, pad-lt}
 use Rattle.file.proofs.Fields.{end-fill, end-long, end-fine}
 use Rattle.file.proofs.check.end.Statement.{statement}
 use Rattle.file.proofs.check.end.Tie as tie
-use Rattle.file.proofs.check.end.Reads as reads
-use Rattle.file.proofs.check.end.Lts as lts
-use Rattle.file.proofs.get.get.Reads as get-reads
-use Rattle.file.proofs.get.refused.Reads as refused-reads
 
 add-used : tie.Need-add-used
 add-used c = search needs
@@ -27,11 +18,12 @@ sub-get c = search needs
 
 get-requires : tie.Need-get-requires
 unfolding byteLen
-get-requires c κs = record {
-  narrow = omega arith;
-  near = omega arith;
-  there = omega (arith, c .before .pre .1);
-}
+get-requires c κs =
+    record {
+      narrow = omega arith;
+      near = omega arith;
+      there = omega (arith, c .before .pre .1);
+    }
 
 refused-requires : tie.Need-refused-requires
 refused-requires c κs = search needs
@@ -45,7 +37,9 @@ refused-requires-2 c κs = search needs
 
 returns-2 : tie.Need-returns-2
 unfolding byteLen padLen
-returns-2 c = c .refused2 .ensures ∙ sym (end-long _ _ (sym (c .before .before .before .get .ensures) ∙ c .before .before .if1 .left) (c .before .if2 .taken))
+returns-2 c =
+    c .refused2 .ensures ∙ sym (end-long _ _ (sym (c .before .before .before .get .ensures) ∙ c .before .before .if1 .left)
+    (c .before .if2 .taken))
 
 returns-3 : tie.Need-returns-3
 unfolding byteLen padLen

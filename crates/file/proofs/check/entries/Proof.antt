@@ -1,24 +1,19 @@
-use Prim.Native.Nat.{ℕ, zero, suc, _+_, _-_, _*_, _/_, _%_, _^_, _≤_, _<_}
-use mathlib.Core.Path.{_≡_, refl, sym, ap, subst, _∙_}
-use mathlib.Core.List.{List, [], _∷_, _++_}
-use mathlib.Core.Logic.{_⊎_, inl, inr, ⊎-elim}
-use mathlib.Core.Bool.{Bool, true, false}
+-- The loop of `entries`: the entries from bit `at` on, above rank `low - 1`, give what all of them give. A legal entry moves
+-- on by 24 bits; the entries left fall.
+use Prim.Native.Nat.{_+_, _*_, _≤_}
+use mathlib.Core.Path.{_≡_, refl, sym, _∙_}
 use native.Mathlib.Omega.{arith}
 use borrow.Author.Needs.{needs}
-use lib.ListN.{length, getD, set, take, drop, length-set}
 use Rattle.file.specs.Reader.{entriesFrom}
 use Rattle.file.proofs.Fields.{entries-stop, entries-on, entries-end}
 use Rattle.file.proofs.Steps.{went-on, stopped, verdict-refused}
 use Rattle.file.proofs.Bits.{field-lt}
 use Rattle.file.proofs.check.entries.Statement.{statement}
 use Rattle.file.proofs.check.entries.Tie as tie
-use Rattle.file.proofs.check.entries.Reads as reads
-use Rattle.file.proofs.check.entries.Lts as lts
-use Rattle.file.proofs.check.entry.Reads as entry-reads
-use Rattle.file.proofs.get.verdict.Reads as verdict-reads
 
 abbrev Inv-loop : tie.InvT-loop
-Inv-loop bytes n k p count at₀ low₀ left₀ at low left = (left ≤ count) × (at + 24 * left ≡ p + 24 * count) × (entriesFrom bytes n k at low left ≡ entriesFrom bytes n k p 0 count)
+Inv-loop bytes n k p count at₀ low₀ left₀ at low left = (left ≤ count) × (at + 24 * left ≡ p + 24 * count) × (entriesFrom
+    bytes n k at low left ≡ entriesFrom bytes n k p 0 count)
 
 abbrev μ-loop : tie.MeasureT-loop
 μ-loop bytes n k p count at₀ low₀ left₀ at low left = left
@@ -39,13 +34,20 @@ verdict-requires : tie.Need-verdict-requires Inv-loop μ-loop
 verdict-requires c κs = tt
 
 returns : tie.Need-returns Inv-loop μ-loop
-returns c = c .verdict .ensures ∙ verdict-refused (c .before .enum-told .given .1)
-    ∙ sym (entries-stop _ _ _ _ _ _ (c .before .before .before .before .loop-test .taken) (stopped _ _ (sym (c .before .enum-told .given .1) ∙ c .before .before .before .entry .ensures)))
+returns c =
+    c .verdict .ensures ∙ verdict-refused (c .before .enum-told .given .1)
+    ∙ sym (entries-stop _ _ _ _ _ _ (c .before .before .before .before .loop-test .taken) (stopped _ _ (sym
+    (c .before .enum-told .given .1) ∙ c .before .before .before .entry .ensures)))
     ∙ c .before .before .before .before .before .loop .inv .2
 
 add-low : tie.Need-add-low Inv-loop μ-loop
-add-low c = let (e, q) = went-on _ _ (sym (c .before .got .given .1) ∙ c .before .before .before .entry .ensures) in
-    omega (arith, field-lt (c .before .before .before .before .before .before .before .args .bytes .now) (c .before .before .before .before .before .loop .at) 12)
+add-low c =
+    let (e, q) = went-on _ _ (sym (c .before .got .given .1) ∙ c .before .before .before .entry .ensures) in
+    omega (
+      arith,
+      field-lt (c .before .before .before .before .before .before .before .args .bytes .now)
+          (c .before .before .before .before .before .loop .at) 12,
+    )
 
 add-at : tie.Need-add-at Inv-loop μ-loop
 add-at c = omega arith
@@ -57,8 +59,13 @@ loop-less : tie.Need-loop-less Inv-loop μ-loop
 loop-less c = omega arith
 
 loop-again : tie.Need-loop-again Inv-loop μ-loop
-loop-again c = let (e, q) = went-on _ _ (sym (c .before .got .given .1) ∙ c .before .before .before .entry .ensures) in
-    (omega arith, omega arith, entries-on _ _ _ _ _ _ _ (c .before .before .before .before .loop-test .taken) e q ∙ c .before .before .before .before .before .loop .inv .2)
+loop-again c =
+    let (e, q) = went-on _ _ (sym (c .before .got .given .1) ∙ c .before .before .before .entry .ensures) in (
+      omega arith,
+      omega arith,
+      entries-on _ _ _ _ _ _ _ (c .before .before .before .before .loop-test .taken) e q ∙
+          c .before .before .before .before .before .loop .inv .2,
+    )
 
 returns-2 : tie.Need-returns-2 Inv-loop μ-loop
 returns-2 c = sym (entries-end _ _ _ _ _ _ (omega arith)) ∙ c .before .loop .inv .2

@@ -1,11 +1,9 @@
-use Prim.Native.Nat.{ℕ, zero, suc, _+_, _-_, _*_, _/_, _%_, _^_, _≤_, _<_}
-use mathlib.Core.Path.{_≡_, refl, sym, ap, subst, _∙_}
-use mathlib.Core.List.{List, [], _∷_, _++_}
-use mathlib.Core.Logic.{_⊎_, inl, inr, ⊎-elim}
-use mathlib.Core.Bool.{Bool, true, false}
+-- The loop of `order`: the fields from rank r on give what all of them give, and the flags have the frames below rank r. A
+-- legal field moves both on by one rank; the ranks left fall.
+use Prim.Native.Nat.{_-_, _≤_}
+use mathlib.Core.Path.{_≡_, sym, ap, _∙_}
 use native.Mathlib.Omega.{arith}
 use borrow.Author.Needs.{needs}
-use lib.ListN.{length, getD, set, take, drop, length-set}
 use Rattle.file.specs.Reader.{orderFrom}
 use Rattle.file.specs.Steps.{Seen}
 use native.Mathlib.Nat.{sub-zero}
@@ -13,10 +11,6 @@ use Rattle.file.proofs.Fields.{order-stop, order-on, order-end, seen-no
 use Rattle.file.proofs.Steps.{went-on, stopped, verdict-refused}
 use Rattle.file.proofs.check.order.Statement.{statement}
 use Rattle.file.proofs.check.order.Tie as tie
-use Rattle.file.proofs.check.order.Reads as reads
-use Rattle.file.proofs.check.order.Lts as lts
-use Rattle.file.proofs.check.order_field.Reads as order-field-reads
-use Rattle.file.proofs.get.verdict.Reads as verdict-reads
 
 abbrev Inv-loop : tie.InvT-loop
 Inv-loop bytes n seen₀ r₀ seen r = (r ≤ n) × Seen bytes seen r × (orderFrom bytes n r (n - r) ≡ orderFrom bytes n 0 n)
@@ -31,7 +25,8 @@ slice-aggregate-order-field : tie.Need-slice-aggregate-order-field Inv-loop μ-l
 slice-aggregate-order-field c = sym (c .before .before .loop .inv .1 .long)
 
 order-field-requires : tie.Need-order-field-requires Inv-loop μ-loop
-order-field-requires c κs = (c .before .before .before .before .pre, c .before .loop-test .taken, c .before .before .loop .inv .1)
+order-field-requires c κs =
+    (c .before .before .before .before .pre, c .before .loop-test .taken, c .before .before .loop .inv .1)
 
 enum-told : tie.Need-enum-told Inv-loop μ-loop
 enum-told c = search needs
@@ -43,8 +38,10 @@ verdict-requires : tie.Need-verdict-requires Inv-loop μ-loop
 verdict-requires c κs = tt
 
 returns : tie.Need-returns Inv-loop μ-loop
-returns c = c .verdict .ensures ∙ verdict-refused (c .before .enum-told2 .given .1)
-    ∙ sym (order-stop _ _ _ (c .before .before .before .before .before .before .loop-test .taken) (stopped _ _ (sym (c .before .enum-told2 .given .1) ∙ c .before .before .before .before .order-field .ensures .0)))
+returns c =
+    c .verdict .ensures ∙ verdict-refused (c .before .enum-told2 .given .1)
+    ∙ sym (order-stop _ _ _ (c .before .before .before .before .before .before .loop-test .taken) (stopped _ _ (sym
+    (c .before .enum-told2 .given .1) ∙ c .before .before .before .before .order-field .ensures .0)))
     ∙ c .before .before .before .before .before .before .before .loop .inv .2
 
 add-r : tie.Need-add-r Inv-loop μ-loop
@@ -54,8 +51,14 @@ loop-less : tie.Need-loop-less Inv-loop μ-loop
 loop-less c = omega arith
 
 loop-again : tie.Need-loop-again Inv-loop μ-loop
-loop-again c = let (e, q) = went-on _ _ (sym (c .enum-told .given .1) ∙ c .before .before .before .order-field .ensures .0) in
-    (omega arith, c .before .before .before .order-field .ensures .1 e, order-on _ _ _ (c .before .before .before .before .before .loop-test .taken) e ∙ c .before .before .before .before .before .before .loop .inv .2)
+loop-again c =
+    let (e, q) = went-on _ _ (sym (c .enum-told .given .1) ∙ c .before .before .before .order-field .ensures .0) in (
+      omega arith,
+      c .before .before .before .order-field .ensures .1 e,
+      order-on _ _ _
+          (c .before .before .before .before .before .loop-test .taken) e ∙
+          c .before .before .before .before .before .before .loop .inv .2,
+    )
 
 returns-2 : tie.Need-returns-2 Inv-loop μ-loop
 returns-2 c = sym (order-end _ _ _ (omega arith)) ∙ c .before .loop .inv .2

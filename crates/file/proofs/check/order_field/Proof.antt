@@ -1,22 +1,17 @@
-use Prim.Native.Nat.{ℕ, zero, suc, _+_, _-_, _*_, _/_, _%_, _^_, _≤_, _<_}
-use mathlib.Core.Path.{_≡_, refl, sym, ap, subst, _∙_}
-use mathlib.Core.List.{List, [], _∷_, _++_}
-use mathlib.Core.Logic.{_⊎_, inl, inr, ⊎-elim}
-use mathlib.Core.Bool.{Bool, true, false}
+-- `order_field` goes by the cases of its test: SHORT, n or more, seen before, legal. The flags say of each frame whether it
+-- stands at a lower rank, and a legal field's frame is one of those from then on.
+use Prim.Native.Nat.{_+_, _*_, _<_}
+use mathlib.Core.Path.{_≡_, sym, _∙_}
 use native.Mathlib.Omega.{arith}
-use lib.ListN.{length, getD, set, take, drop, length-set}
 use borrow.Author.Needs.{needs}
 use Rattle.refusal.proofs.Laws.{fine-not-refused}
-use Rattle.file.specs.Reader.{frameAt}
+use Rattle.file.specs.Reader.{shortTest, frameAt}
+use Rattle.refusal.specs.declared.Verdict.{Verdict}
 use Rattle.file.proofs.Fields.{order-short, order-out, order-again, order-legal, seen-says, seen-on}
 use Rattle.file.proofs.Steps.{step-fine, step-refused, went-on, stopped}
 use Rattle.file.proofs.Bits.{field-lt}
 use Rattle.file.proofs.check.order_field.Statement.{statement}
 use Rattle.file.proofs.check.order_field.Tie as tie
-use Rattle.file.proofs.check.order_field.Reads as reads
-use Rattle.file.proofs.check.order_field.Lts as lts
-use Rattle.file.proofs.get.field.Reads as field-reads
-use Rattle.file.proofs.get.stop.Reads as stop-reads
 
 mul-p : tie.Need-mul-p
 mul-p c = search needs
@@ -35,16 +30,39 @@ enum-told c = search needs
 
 returns : tie.Need-returns
 unfolding frameAt
-returns c = let e = order-short _ (c .before .before .before .before .before .args .n) (c .before .before .before .before .before .args .r) (stopped _ _ (sym (c .enum-told .given .1) ∙ c .before .before .field .ensures)) in
-    (c .enum-told .given .1 ∙ step-refused _ e, λ h. fine-not-refused (sym h ∙ e))
+returns c =
+    let g = c .enum-told .given .1 in
+    let o = order-short _ (c .before .before .before .before .before .args .n)
+    (c .before .before .before .before .before .args .r) (stopped _ _ (sym g ∙ c .before .before .field .ensures)) in
+    (g ∙ step-refused _ o, λ h. fine-not-refused (sym h ∙ o))
+
+-- the field is there, this is its value, and it is small enough for the flags
+framed : (c : tie.After-known-told)
+    → (shortTest (c .before .before .before .before .before .before .args .bytes .now) (32 + 12 *
+    c .before .before .before .before .before .before .args .r) 12 ≡ Verdict.Fine)
+    × (c .before .got .given .0 .0 ≡ frameAt (c .before .before .before .before .before .before .args .bytes .now)
+    (c .before .before .before .before .before .before .args .r))
+    × (c .before .got .given .0 .0 < 4096)
+unfolding frameAt
+framed c =
+    let (e, q) = went-on _ _ (sym (c .before .got .given .1) ∙ c .before .before .before .field .ensures) in (
+      e,
+      q,
+      omega (
+        arith,
+        field-lt (c .before .before .before .before .before .before .args .bytes .now) (32 + 12 *
+            c .before .before .before .before .before .before .args .r) 12,
+      ),
+    )
 
 stop-requires : tie.Need-stop-requires
 stop-requires c κs = search needs
 
 returns-2 : tie.Need-returns-2
-unfolding frameAt
-returns-2 c = let (e, q) = went-on _ _ (sym (c .before .before .before .got .given .1) ∙ c .before .before .before .before .before .field .ensures) in
-    let o = order-out _ (c .before .before .before .before .before .before .before .before .args .n) (c .before .before .before .before .before .before .before .before .args .r) e (omega (arith, c .before .if1 .taken)) in
+returns-2 c =
+    let (e, q, small) = framed (c .before .before) in
+    let o = order-out _ (c .before .before .before .before .before .before .before .before .args .n)
+    (c .before .before .before .before .before .before .before .before .args .r) e (omega (arith, c .before .if1 .taken)) in
     (c .stop .ensures ∙ step-refused _ o, λ h. fine-not-refused (sym h ∙ o))
 
 slice-read-if2 : tie.Need-slice-read-if2
@@ -54,10 +72,12 @@ stop-requires-2 : tie.Need-stop-requires-2
 stop-requires-2 c κs = search needs
 
 returns-3 : tie.Need-returns-3
-unfolding frameAt
-returns-3 c = let (e, q) = went-on _ _ (sym (c .before .before .before .before .before .got .given .1) ∙ c .before .before .before .before .before .before .before .field .ensures) in
-    let small = field-lt (c .before .before .before .before .before .before .before .before .before .before .args .bytes .now) (32 + 12 * c .before .before .before .before .before .before .before .before .before .before .args .r) 12 in
-    let o = order-again _ (c .before .before .before .before .before .before .before .before .before .before .args .n) (c .before .before .before .before .before .before .before .before .before .before .args .r) e (seen-says (c .before .before .before .before .before .before .before .before .before .before .pre .2) q (omega arith) (c .before .if2 .taken)) in
+returns-3 c =
+    let (e, q, small) = framed (c .before .before .before .before) in
+    let o = order-again _ (c .before .before .before .before .before .before .before .before .before .before .args .n)
+    (c .before .before .before .before .before .before .before .before .before .before .args .r) e (seen-says
+    (c .before .before .before .before .before .before .before .before .before .before .pre .2) q small
+    (c .before .if2 .taken)) in
     (c .stop2 .ensures ∙ step-refused _ o, λ h. fine-not-refused (sym h ∙ o))
 
 slice-write-seen : tie.Need-slice-write-seen
@@ -67,13 +87,19 @@ same-length : tie.Need-same-length
 same-length c = search needs
 
 returns-4 : tie.Need-returns-4
-unfolding frameAt
-returns-4 c = let (e, q) = went-on _ _ (sym (c .before .before .before .before .got .given .1) ∙ c .before .before .before .before .before .before .field .ensures) in
-    let small = field-lt (c .before .before .before .before .before .before .before .before .before .args .bytes .now) (32 + 12 * c .before .before .before .before .before .before .before .before .before .args .r) 12 in
-    let o =
-    order-legal _ (c .before .before .before .before .before .before .before .before .before .args .n) (c .before .before .before .before .before .before .before .before .before .args .r) e (omega (arith, c .before .before .if1 .left))
-    (seen-says (c .before .before .before .before .before .before .before .before .before .pre .2) q (omega arith) (c .if2 .left)) in
-    (step-fine o q, λ h. seen-on (c .before .before .before .before .before .before .before .before .before .pre .2) q (omega arith))
+returns-4 c =
+    let (e, q, small) = framed (c .before .before .before) in
+    let new = seen-says (c .before .before .before .before .before .before .before .before .before .pre .2) q small
+    (c .if2 .left) in
+    let o = order-legal _ (c .before .before .before .before .before .before .before .before .before .args .n)
+    (c .before .before .before .before .before .before .before .before .before .args .r) e (omega (
+      arith,
+      c .before .before .if1 .left,
+    )) new in (
+      step-fine o q,
+      λ h. seen-on (c .before .before .before .before .before .before .before .before .before .pre .2) q
+          small,
+    )
 
 pub order-field-spec : {M : Type 1} → statement M
 order-field-spec =

@@ -1,22 +1,15 @@
-use Prim.Native.Nat.{ℕ, zero, suc, _+_, _-_, _*_, _/_, _%_, _^_, _≤_, _<_}
-use mathlib.Core.Path.{_≡_, refl, sym, ap, subst, _∙_}
-use mathlib.Core.List.{List, [], _∷_, _++_}
-use mathlib.Core.Logic.{_⊎_, inl, inr, ⊎-elim}
-use mathlib.Core.Bool.{Bool, true, false}
+-- `row` goes by the cases of its test: a short count, one over 256, one over W, and else what its entries give.
+use Prim.Native.Nat.{ℕ, _+_, _*_}
+use mathlib.Core.Path.{_≡_, sym, ap, _∙_}
 use native.Mathlib.Omega.{arith}
-use lib.ListN.{length, getD, set, take, drop, length-set}
 use borrow.Author.Needs.{needs}
+use Rattle.file.specs.Reader.{shortTest, behind}
 use Rattle.refusal.specs.declared.Verdict.{Verdict}
-use Rattle.file.specs.Reader.{behind}
+use Rattle.file.specs.Bits.{fieldAt}
 use Rattle.file.proofs.Fields.{row-short, row-count, row-room, row-entries}
 use Rattle.file.proofs.Steps.{step-fine, step-refused, went-on, stopped}
 use Rattle.file.proofs.check.row.Statement.{statement}
 use Rattle.file.proofs.check.row.Tie as tie
-use Rattle.file.proofs.check.row.Reads as reads
-use Rattle.file.proofs.check.row.Lts as lts
-use Rattle.file.proofs.check.entries.Reads as entries-reads
-use Rattle.file.proofs.get.field.Reads as field-reads
-use Rattle.file.proofs.get.stop.Reads as stop-reads
 
 field-requires : tie.Need-field-requires
 field-requires c κs = search needs
@@ -28,22 +21,37 @@ enum-told : tie.Need-enum-told
 enum-told c = search needs
 
 returns : tie.Need-returns
-returns c = c .enum-told .given .1 ∙ step-refused _ (row-short _ _ _ _ _ _ (stopped _ _ (sym (c .enum-told .given .1) ∙ c .before .before .field .ensures)))
+returns c =
+    let g = c .enum-told .given .1 in
+    g ∙ step-refused _ (row-short _ _ _ _ _ _ (stopped _ _ (sym g ∙ c .before .before .field .ensures)))
+
+-- the count's field is there, and this is its value
+counted : (c : tie.After-known-told)
+    → (shortTest (c .before .before .before .before .before .args .bytes .now)
+    (c .before .before .before .before .before .args .p) 9 ≡ Verdict.Fine)
+    × (c .before .got .given .0 .0 ≡ fieldAt (c .before .before .before .before .before .args .bytes .now)
+    (c .before .before .before .before .before .args .p) 9)
+counted c = went-on _ _ (sym (c .before .got .given .1) ∙ c .before .before .before .field .ensures)
 
 stop-requires : tie.Need-stop-requires
 stop-requires c κs = search needs
 
 returns-2 : tie.Need-returns-2
-returns-2 c = let (e, q) = went-on _ _ (sym (c .before .before .before .got .given .1) ∙ c .before .before .before .before .before .field .ensures) in
+returns-2 c =
+    let (e, q) = counted (c .before .before) in
     c .stop .ensures ∙ step-refused _ (row-count _ _ _ _ _ _ e (omega (arith, c .before .if1 .taken)))
 
 stop-requires-2 : tie.Need-stop-requires-2
 stop-requires-2 c κs = search needs
 
 returns-3 : tie.Need-returns-3
-returns-3 c = let (e, q) = went-on _ _ (sym (c .before .before .before .before .got .given .1) ∙ c .before .before .before .before .before .before .field .ensures) in
+returns-3 c =
+    let (e, q) = counted (c .before .before .before) in
     c .stop2 .ensures
-    ∙ step-refused _ (row-room _ _ _ _ _ _ e (omega (arith, c .before .before .if1 .left)) (omega (arith, c .before .if2 .taken)))
+    ∙ step-refused _ (row-room _ _ _ _ _ _ e (omega (arith, c .before .before .if1 .left)) (omega (
+      arith,
+      c .before .if2 .taken,
+    )))
 
 add-at : tie.Need-add-at
 add-at c = search needs
@@ -55,9 +63,13 @@ enum-known-tested : tie.Need-enum-known-tested
 enum-known-tested c = search needs
 
 returns-4 : tie.Need-returns-4
-returns-4 c = let (e, q) = went-on _ _ (sym (c .before .before .before .before .before .before .before .got .given .1) ∙ c .before .before .before .before .before .before .before .before .before .field .ensures) in
+returns-4 c =
+    let (e, q) = counted (c .before .before .before .before .before .before) in
     step-refused _
-    (row-entries _ _ _ _ _ _ e q (c .before .before .before .before .before .if1 .left) (c .before .before .before .before .if2 .left) ∙ sym (c .before .before .before .entries .ensures) ∙ c .before .tested .given .1)
+    (row-entries _ _ _ _ _ _ e q (c .before .before .before .before .before .if1 .left)
+    (c .before .before .before .before .if2 .left)
+    ∙ sym (c .before .before .before .entries .ensures)
+    ∙ c .before .tested .given .1)
 
 enum-told-2 : tie.Need-enum-told-2
 enum-told-2 c = search needs
@@ -70,10 +82,14 @@ add-t14 c = search needs
 
 returns-5 : tie.Need-returns-5
 unfolding behind
-returns-5 c = let (e, q) = went-on _ _ (sym (c .before .before .before .before .before .before .got .given .1) ∙ c .before .before .before .before .before .before .before .before .field .ensures) in
+returns-5 c =
+    let (e, q) = counted (c .before .before .before .before .before) in
     step-fine
-    (row-entries _ _ _ _ _ _ e q (c .before .before .before .before .if1 .left) (c .before .before .before .if2 .left) ∙ sym (c .before .before .entries .ensures) ∙ c .enum-told2 .given .1)
-    (ap (λ (x : ℕ). c .before .before .before .before .before .before .before .before .before .before .args .p + 9 + 24 * x) q)
+    (row-entries _ _ _ _ _ _ e q (c .before .before .before .before .if1 .left) (c .before .before .before .if2 .left)
+    ∙ sym (c .before .before .entries .ensures)
+    ∙ c .enum-told2 .given .1)
+    (ap (λ (x : ℕ). c .before .before .before .before .before .before .before .before .before .before .args .p + 9 + 24 * x)
+    q)
 
 pub row-spec : {M : Type 1} → statement M
 row-spec =

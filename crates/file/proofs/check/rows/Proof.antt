@@ -1,26 +1,20 @@
-use Prim.Native.Nat.{ℕ, zero, suc, _+_, _-_, _*_, _/_, _%_, _^_, _≤_, _<_}
-use mathlib.Core.Path.{_≡_, refl, sym, ap, subst, _∙_}
-use mathlib.Core.List.{List, [], _∷_, _++_}
-use mathlib.Core.Logic.{_⊎_, inl, inr, ⊎-elim}
-use mathlib.Core.Bool.{Bool, true, false}
+-- The loop of `rows`: the rows from frame v and bit p on give what all of them give. A whole row moves on to the bit behind
+-- it, which is near enough to count; the frames left fall.
+use Prim.Native.Nat.{_+_, _-_, _*_, _≤_}
+use mathlib.Core.Path.{_≡_, sym, ap, _∙_}
 use native.Mathlib.Omega.{arith}
 use borrow.Author.Needs.{needs}
-use lib.ListN.{length, getD, set, take, drop, length-set}
 use native.Mathlib.Nat.{sub-zero}
-use Rattle.refusal.specs.declared.Verdict.{Verdict}
-use Rattle.file.specs.Reader.{whole, rowsFrom, rowsOf, behind}
+use Rattle.file.specs.Reader.{whole, rowsFrom, rowsOf}
 use Rattle.file.proofs.Inversion.{behind-near}
 use Rattle.file.proofs.Fields.{rows-stop, rows-on, rows-end}
 use Rattle.file.proofs.Steps.{went-on, stopped, verdict-refused}
 use Rattle.file.proofs.check.rows.Statement.{statement}
 use Rattle.file.proofs.check.rows.Tie as tie
-use Rattle.file.proofs.check.rows.Reads as reads
-use Rattle.file.proofs.check.rows.Lts as lts
-use Rattle.file.proofs.check.row.Reads as row-reads
-use Rattle.file.proofs.get.verdict.Reads as verdict-reads
 
 abbrev Inv-loop : tie.InvT-loop
-Inv-loop bytes n k w v₀ p₀ v p = (v ≤ n) × (p ≤ 32 + 12 * n + 12273 * v) × (rowsFrom bytes n k w v p (n - v) ≡ rowsOf bytes n k w)
+Inv-loop bytes n k w v₀ p₀ v p = (v ≤ n) × (p ≤ 32 + 12 * n + 12273 * v) × (rowsFrom bytes n k w v p (n - v) ≡ rowsOf bytes
+    n k w)
 
 abbrev μ-loop : tie.MeasureT-loop
 μ-loop bytes n k w v₀ p₀ v p = n - v
@@ -48,8 +42,10 @@ verdict-requires : tie.Need-verdict-requires Inv-loop μ-loop
 verdict-requires c κs = tt
 
 returns : tie.Need-returns Inv-loop μ-loop
-returns c = ap (whole _ _) (c .verdict .ensures ∙ verdict-refused (c .before .enum-told .given .1))
-    ∙ sym (rows-stop _ _ _ _ _ _ (c .before .before .before .before .loop-test .taken) (stopped _ _ (sym (c .before .enum-told .given .1) ∙ c .before .before .before .row .ensures)))
+returns c =
+    ap (whole _ _) (c .verdict .ensures ∙ verdict-refused (c .before .enum-told .given .1))
+    ∙ sym (rows-stop _ _ _ _ _ _ (c .before .before .before .before .loop-test .taken) (stopped _ _ (sym
+    (c .before .enum-told .given .1) ∙ c .before .before .before .row .ensures)))
     ∙ c .before .before .before .before .before .loop .inv .2
 
 add-v : tie.Need-add-v Inv-loop μ-loop
@@ -59,11 +55,17 @@ loop-less : tie.Need-loop-less Inv-loop μ-loop
 loop-less c = omega arith
 
 loop-again : tie.Need-loop-again Inv-loop μ-loop
-loop-again c = let (e, q) = went-on _ _ (sym (c .before .got .given .1) ∙ c .before .before .before .row .ensures) in (
-  omega arith,
-  omega (arith, behind-near (c .before .before .before .before .before .before .before .args .bytes .now) (c .before .before .before .before .before .loop .p)),
-  rows-on _ _ _ _ _ _ (c .before .before .before .before .loop-test .taken) e q ∙ c .before .before .before .before .before .loop .inv .2,
-)
+loop-again c =
+    let (e, q) = went-on _ _ (sym (c .before .got .given .1) ∙ c .before .before .before .row .ensures) in (
+      omega arith,
+      omega (
+        arith,
+        behind-near (c .before .before .before .before .before .before .before .args .bytes .now)
+            (c .before .before .before .before .before .loop .p),
+      ),
+      rows-on _ _ _ _ _ _ (c .before .before .before .before .loop-test .taken) e q ∙
+          c .before .before .before .before .before .loop .inv .2,
+    )
 
 returns-2 : tie.Need-returns-2 Inv-loop μ-loop
 returns-2 c = sym (rows-end _ _ _ _ _ _ (omega arith)) ∙ c .before .loop .inv .2

@@ -1,19 +1,10 @@
-use Prim.Native.Nat.{ℕ, zero, suc, _+_, _-_, _*_, _/_, _%_, _^_, _≤_, _<_}
-use mathlib.Core.Path.{_≡_, refl, sym, ap, subst, _∙_}
-use mathlib.Core.List.{List, [], _∷_, _++_}
-use mathlib.Core.Logic.{_⊎_, inl, inr, ⊎-elim}
-use mathlib.Core.Bool.{Bool, true, false}
-use native.Mathlib.Omega.{arith}
-use lib.ListN.{length, getD, set, take, drop, length-set}
+-- `field`: where the bytes end before the field does, SHORT at its first bit, else its value.
+use mathlib.Core.Path.{_∙_}
 use borrow.Author.Needs.{needs}
 use Rattle.file.specs.Bits.{byteLen}
 use Rattle.file.proofs.Steps.{short-fine, short-refused, step-fine, step-refused}
 use Rattle.file.proofs.get.field.Statement.{statement}
 use Rattle.file.proofs.get.field.Tie as tie
-use Rattle.file.proofs.get.field.Reads as reads
-use Rattle.file.proofs.get.field.Lts as lts
-use Rattle.file.proofs.get.get.Reads as get-reads
-use Rattle.file.proofs.get.stop.Reads as stop-reads
 
 add-end : tie.Need-add-end
 add-end c = search needs
@@ -30,7 +21,8 @@ returns c = c .stop .ensures ∙ step-refused _ (short-refused _ _ _ (c .before 
 
 get-requires : tie.Need-get-requires
 unfolding byteLen
-get-requires c κs = record { narrow = c .before .before .pre .narrow; near = c .before .before .pre .near; there = c .if1 .left }
+get-requires c κs =
+    record { narrow = c .before .before .pre .narrow; near = c .before .before .pre .near; there = c .if1 .left }
 
 returns-2 : tie.Need-returns-2
 unfolding byteLen

@@ -1,18 +1,14 @@
-use Prim.Native.Nat.{ℕ, zero, suc, _+_, _-_, _*_, _/_, _%_, _^_, _≤_, _<_}
-use mathlib.Core.Path.{_≡_, refl, sym, ap, subst, _∙_}
-use mathlib.Core.List.{List, [], _∷_, _++_}
-use mathlib.Core.Logic.{_⊎_, inl, inr, ⊎-elim}
-use mathlib.Core.Bool.{Bool, true, false}
+-- `get` gathers byte after byte: what it has are the last bits of the first `at` bytes. One byte more keeps that, the bytes
+-- left fall, and the field is cut out of the sum, which never exceeds three bytes.
+use Prim.Native.Nat.{ℕ, _-_, _/_, _^_, _<_}
+use mathlib.Core.Path.{_∙_}
 use native.Mathlib.Omega.{arith}
 use borrow.Author.Needs.{needs}
-use lib.ListN.{length, getD, set, take, drop, length-set}
 use lib.Pow.{shr-le}
 use Rattle.file.specs.Bits.{byteLen}
 use Rattle.file.proofs.Gather.{Gathered, gather-none, gather-lt, gather-more, gather-done, cut, cut-le}
 use Rattle.file.proofs.get.get.Statement.{statement}
 use Rattle.file.proofs.get.get.Tie as tie
-use Rattle.file.proofs.get.get.Reads as reads
-use Rattle.file.proofs.get.get.Lts as lts
 
 abbrev Inv-loop : tie.InvT-loop
 Inv-loop bytes p width end at₀ sum₀ at sum = Gathered bytes p end at sum

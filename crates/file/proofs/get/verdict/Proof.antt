@@ -1,16 +1,9 @@
-use Prim.Native.Nat.{ℕ, zero, suc, _+_, _-_, _*_, _/_, _%_, _^_, _≤_, _<_}
-use mathlib.Core.Path.{_≡_, refl, sym, ap, subst, _∙_}
-use mathlib.Core.List.{List, [], _∷_, _++_}
-use mathlib.Core.Logic.{_⊎_, inl, inr, ⊎-elim}
-use mathlib.Core.Bool.{Bool, true, false}
-use native.Mathlib.Omega.{arith}
-use lib.ListN.{length, getD, set, take, drop, length-set}
+-- `verdict` forgets the number of a step, case by case.
+use mathlib.Core.Path.{sym, ap}
 use borrow.Author.Needs.{needs}
 use Rattle.file.specs.Steps.{verdictOf}
 use Rattle.file.proofs.get.verdict.Statement.{statement}
 use Rattle.file.proofs.get.verdict.Tie as tie
-use Rattle.file.proofs.get.verdict.Reads as reads
-use Rattle.file.proofs.get.verdict.Lts as lts
 
 enum-told : tie.Need-enum-told
 enum-told c = search needs

@@ -1,13 +1,12 @@
 -- The last byte: the bits held, moved up to the byte's front.
-use Prim.Native.Nat.{ℕ, zero, suc, _+_, _-_, _*_, _/_, _%_, _^_, _≤_, _<_}
+use Prim.Native.Nat.{ℕ, suc, _+_, _-_, _*_, _/_, _%_, _^_, _≤_, _<_}
 use mathlib.Core.Path.{_≡_, refl, sym, ap, ap₂, subst, _∙_}
-use mathlib.Core.List.{List, [], _∷_, _++_}
+use mathlib.Core.List.{List, [], _∷_}
 use native.Mathlib.Omega.{arith}
 use borrow.Author.Needs.{needs}
 use denote.Ref.{now}
-use lib.ListN.{length, getD, set, take, drop}
-use native.Mathlib.Numerals.{add-one}
-use native.Mathlib.Nat.{add-mul, mul-assoc, add-zero}
+use lib.ListN.{length, set, take}
+use native.Mathlib.Nat.{add-mul, mul-assoc}
 use lib.ListN.{length-set}
 use lib.Seq.{take-suc-set}
 use lib.Arith.{lt-one}

@@ -1,20 +1,20 @@
 -- One field. The invariant: the bytes stored and the bits still held make the number that was to be put, the bits not
 -- stored are as they were. A turn moves eight bits from the pen into the next byte; their number falls.
-use Prim.Native.Nat.{ℕ, zero, suc, _+_, _-_, _*_, _/_, _%_, _^_, _≤_, _<_}
+use Prim.Native.Nat.{ℕ, _+_, _-_, _*_, _/_, _%_, _^_, _≤_, _<_}
 use mathlib.Core.Path.{_≡_, refl, sym, ap, ap₂, subst, _∙_}
-use mathlib.Core.List.{List, [], _∷_, _++_}
+use mathlib.Core.List.{List, [], _∷_}
 use native.Mathlib.Omega.{arith}
-use native.Mathlib.Nat.{add-assoc, add-mul, mul-assoc, mod-lt, mod-eq-sub-div-mul, le-refl, add-zero, lt-of-lt-of-le, div-mul-le-self, le-trans, mod-le}
+use native.Mathlib.Nat.{add-assoc, add-mul, mul-assoc, mod-lt, mod-eq-sub-div-mul, lt-of-lt-of-le, div-mul-le-self, le-trans, mod-le}
 use native.Mathlib.Numerals.{add-one}
 use borrow.Author.Needs.{needs}
 use denote.Ref.{now}
-use lib.ListN.{length, getD, set, take, drop, length-set}
+use lib.ListN.{length, set, take, drop, length-set}
 use lib.Seq.{take-suc-set, drop-set-lt, drop-drop}
-use lib.Pow.{pow-pos, pow-mono, pow-add, split, shr-lt, shl-lt, shl-exact}
+use lib.Pow.{pow-pos, pow-mono, pow-add, split, shr-lt, shl-exact}
 use lib.Arith.{digits-lt}
 use Rattle.file.specs.declared.put.Pen.{Pen}
 use Rattle.file.specs.Bits.{val, bitLen, num, Legal, field}
-use Rattle.file.specs.Pen.{penBits, penNum, Ready, Put}
+use Rattle.file.specs.Pen.{penNum, Ready, Put}
 use Rattle.file.proofs.Bits.{val-append}
 use Rattle.file.proofs.put.put.Statement.{statement}
 use Rattle.file.proofs.put.put.Tie as tie
@@ -116,23 +116,23 @@ module _ (o : List ℕ) (p : Pen) (value width : ℕ) (r : Ready o p (field valu
       }
 
 abbrev Inv-loop : tie.InvT-loop
-Inv-loop out₀ value width at₀ acc₀ nb₀ out at acc nb =
+Inv-loop out₀ value width at₀ held waiting acc₀ nb₀ out at acc nb =
     Stored out₀ (val (take at₀ out₀) * 2 ^ nb₀ + acc₀) (8 * at₀ + nb₀) out at acc nb
 
 abbrev μ-loop : tie.MeasureT-loop
-μ-loop out₀ value width at₀ acc₀ nb₀ out at acc nb = nb
+μ-loop out₀ value width at₀ held waiting acc₀ nb₀ out at acc nb = nb
 
 shl-acc : tie.Need-shl-acc Inv-loop μ-loop
-shl-acc c = omega (arith, c .before .pre .1)
+shl-acc c = omega (arith, c .pre .1)
 
 add-acc : tie.Need-add-acc Inv-loop μ-loop
-add-acc c = let a = c .before .args in record { fits = held-fits (now (a .out)) (a .pen) (a .value) (a .width) (c .before .pre .0) (c .before .pre .1) }
+add-acc c = let a = c .args in record { fits = held-fits (now (a .out)) (a .pen) (a .value) (a .width) (c .pre .0) (c .pre .1) }
 
 add-nb : tie.Need-add-nb Inv-loop μ-loop
-add-nb c = omega (arith, c .before .before .pre .1, c .before .before .pre .0 .small)
+add-nb c = omega (arith, c .pre .1, c .pre .0 .small)
 
 loop-holds : tie.Need-loop-holds Inv-loop μ-loop
-loop-holds c = let a = c .before .before .args in begun (now (a .out)) (a .pen) (a .value) (a .width) (c .before .before .pre .0) (c .before .before .pre .1)
+loop-holds c = let a = c .args in begun (now (a .out)) (a .pen) (a .value) (a .width) (c .pre .0) (c .pre .1)
 
 shr-top : tie.Need-shr-top Inv-loop μ-loop
 shr-top c = omega (arith, c .before .loop .inv .narrow)
@@ -162,7 +162,11 @@ same-length : tie.Need-same-length Inv-loop μ-loop
 same-length c = c .before .loop .inv .long
 
 returns : tie.Need-returns Inv-loop μ-loop
-returns c = let a = c .before .before .before .before .args in let l = c .before .loop in done (now (a .out)) (a .pen) (a .value) (a .width) (c .before .before .before .before .pre .0) (c .before .before .before .before .pre .1) (l .out) (l .at) (l .acc) (l .nb) (l .inv) (c .loop-test .left)
+returns c =
+    let s = c .before .before in
+    let a = s .args in
+    let l = c .before .loop in
+    done (now (a .out)) (a .pen) (a .value) (a .width) (s .pre .0) (s .pre .1) (l .out) (l .at) (l .acc) (l .nb) (l .inv) (c .loop-test .left)
 
 pub put-spec : {M : Type 1} → statement M
 put-spec =

@@ -1,7 +1,7 @@
 -- The entries of a row. The invariant: what is written, followed by the fields of the entries from i on, is the whole; the
 -- next entry's fields stand first among them. The entries left grow fewer.
-use Prim.Native.Nat.{ℕ, zero, suc, _+_, _-_, _*_, _≤_, _<_}
-use mathlib.Core.Path.{_≡_, refl, sym, ap, subst, _∙_}
+use Prim.Native.Nat.{ℕ, _+_, _-_, _≤_, _<_}
+use mathlib.Core.Path.{_≡_, subst}
 use mathlib.Core.List.{List, [], _∷_, _++_}
 use native.Mathlib.Omega.{arith}
 use borrow.Author.Needs.{needs}
@@ -11,8 +11,6 @@ use native.Mathlib.Numerals.{add-one}
 use lib.ListN.{drop-of-length-le}
 use lib.Seq.{drop-cons}
 use Rattle.file.specs.Layout.{entryFields}
-use Rattle.file.specs.Bits.{field, Field}
-use Rattle.file.specs.Pen.{Ready, Put}
 use Rattle.file.proofs.Pen.{Left, left-start, left-ready, left-step, left-end}
 use Rattle.file.proofs.put.put_entries.Statement.{statement}
 use Rattle.file.proofs.put.put_entries.Tie as tie
@@ -23,11 +21,11 @@ unfolding entryFields
 next l i h = rw (add-one i, drop-cons l i 0 h)
 
 abbrev Inv-loop : tie.InvT-loop
-Inv-loop out₀ row now-at₀ i₀ out now-at i =
-    (i ≤ length row) × Left out₀ now-at₀ (entryFields row) out now-at (entryFields (drop i row))
+Inv-loop out₀ row tip₀ i₀ out tip i =
+    (i ≤ length row) × Left out₀ tip₀ (entryFields row) out tip (entryFields (drop i row))
 
 abbrev μ-loop : tie.MeasureT-loop
-μ-loop out₀ row now-at₀ i₀ out now-at i = length row - i
+μ-loop out₀ row tip₀ i₀ out tip i = length row - i
 
 loop-holds : tie.Need-loop-holds Inv-loop μ-loop
 loop-holds c = (omega arith, left-start (c .before .before .pre))
@@ -63,7 +61,7 @@ unfolding entryFields
 returns c =
     let a = c .before .before .before .before .args in
     let l = c .before .loop in
-    left-end (subst (λ (r : List ℕ). Left (now (a .out)) (a .pen) (entryFields (now (a .row))) (l .out) (l .now-at) (entryFields r)) (drop-of-length-le (now (a .row)) (c .loop-test .left)) (l .inv .1))
+    left-end (subst (λ (r : List ℕ). Left (now (a .out)) (a .pen) (entryFields (now (a .row))) (l .out) (l .tip) (entryFields r)) (drop-of-length-le (now (a .row)) (c .loop-test .left)) (l .inv .1))
 
 pub put-entries-spec : {M : Type 1} → statement M
 put-entries-spec =

@@ -1,15 +1,10 @@
 -- One entry: two fields, one after the other.
-use Prim.Native.Nat.{ℕ, zero, suc, _+_, _-_, _*_, _≤_, _<_}
-use mathlib.Core.Path.{_≡_, refl, sym, ap, subst, _∙_}
-use mathlib.Core.List.{List, [], _∷_, _++_}
+use mathlib.Core.List.{[], _∷_}
 use native.Mathlib.Omega.{arith}
 use borrow.Author.Needs.{needs}
 use denote.Ref.{now}
-use lib.ListN.{length, getD, drop}
-use Rattle.rows.specs.Entry.{rankOf, joinsOf}
 use Rattle.file.specs.Bits.{field}
 use Rattle.file.specs.Layout.{entryFields}
-use Rattle.file.specs.Pen.{Ready, Put}
 use Rattle.file.proofs.Pen.{Left, left-start, next-ready, next-step, left-end}
 use Rattle.file.proofs.put.put_entry.Statement.{statement}
 use Rattle.file.proofs.put.put_entry.Tie as tie

@@ -1,14 +1,11 @@
 -- The header: four fields, one after the other.
-use Prim.Native.Nat.{ℕ, zero, suc, _+_, _-_, _*_, _≤_, _<_}
-use mathlib.Core.Path.{_≡_, refl, sym, ap, subst, _∙_}
-use mathlib.Core.List.{List, [], _∷_, _++_}
+use Prim.Native.Nat.{_-_}
+use mathlib.Core.List.{[], _∷_}
 use native.Mathlib.Omega.{arith}
 use borrow.Author.Needs.{needs}
 use denote.Ref.{now}
-use lib.ListN.{length, getD, drop}
 use Rattle.file.specs.Bits.{field}
 use Rattle.file.specs.Layout.{headerFields}
-use Rattle.file.specs.Pen.{Ready, Put}
 use Rattle.file.proofs.Pen.{Left, left-start, next-ready, next-step, left-end}
 use Rattle.file.proofs.put.put_header.Statement.{statement}
 use Rattle.file.proofs.put.put_header.Tie as tie

@@ -1,7 +1,7 @@
 -- The order. The invariant: what is written, followed by the fields of the ranks from here on, is the whole. The ranks left
 -- grow fewer.
-use Prim.Native.Nat.{ℕ, zero, suc, _+_, _-_, _*_, _≤_, _<_}
-use mathlib.Core.Path.{_≡_, refl, sym, ap, subst, _∙_}
+use Prim.Native.Nat.{ℕ, _+_, _-_, _≤_, _<_}
+use mathlib.Core.Path.{_≡_, subst}
 use mathlib.Core.List.{List, [], _∷_, _++_}
 use native.Mathlib.Omega.{arith}
 use borrow.Author.Needs.{needs}
@@ -11,8 +11,7 @@ use native.Mathlib.Numerals.{add-one}
 use lib.ListN.{drop-of-length-le}
 use lib.Seq.{drop-cons}
 use Rattle.file.specs.Layout.{orderFields}
-use Rattle.file.specs.Bits.{field, Field}
-use Rattle.file.specs.Pen.{Ready, Put}
+use Rattle.file.specs.Bits.{field}
 use Rattle.file.proofs.Pen.{Left, left-start, left-ready, left-step, left-end}
 use Rattle.file.proofs.put.put_order.Statement.{statement}
 use Rattle.file.proofs.put.put_order.Tie as tie
@@ -23,11 +22,11 @@ unfolding orderFields
 next l i h = rw (add-one i, drop-cons l i 0 h)
 
 abbrev Inv-loop : tie.InvT-loop
-Inv-loop out₀ order now-at₀ rank₀ out now-at rank =
-    (rank ≤ length order) × Left out₀ now-at₀ (orderFields order) out now-at (orderFields (drop rank order))
+Inv-loop out₀ order tip₀ rank₀ out tip rank =
+    (rank ≤ length order) × Left out₀ tip₀ (orderFields order) out tip (orderFields (drop rank order))
 
 abbrev μ-loop : tie.MeasureT-loop
-μ-loop out₀ order now-at₀ rank₀ out now-at rank = length order - rank
+μ-loop out₀ order tip₀ rank₀ out tip rank = length order - rank
 
 loop-holds : tie.Need-loop-holds Inv-loop μ-loop
 loop-holds c = (omega arith, left-start (c .before .before .pre))
@@ -66,7 +65,7 @@ unfolding orderFields
 returns c =
     let a = c .before .before .before .before .args in
     let l = c .before .loop in
-    left-end (subst (λ (r : List ℕ). Left (now (a .out)) (a .pen) (orderFields (now (a .order))) (l .out) (l .now-at) (orderFields r)) (drop-of-length-le (now (a .order)) (c .loop-test .left)) (l .inv .1))
+    left-end (subst (λ (r : List ℕ). Left (now (a .out)) (a .pen) (orderFields (now (a .order))) (l .out) (l .tip) (orderFields r)) (drop-of-length-le (now (a .order)) (c .loop-test .left)) (l .inv .1))
 
 pub put-order-spec : {M : Type 1} → statement M
 put-order-spec =

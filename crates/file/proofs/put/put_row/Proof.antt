@@ -1,17 +1,17 @@
 -- A row: the field of its count, then its entries, a part of the label room from v * w on.
-use Prim.Native.Nat.{ℕ, zero, suc, _+_, _-_, _*_, _%_, _^_, _≤_, _<_}
-use mathlib.Core.Path.{_≡_, refl, sym, ap, ap₂, subst, _∙_}
-use mathlib.Core.List.{List, [], _∷_, _++_, append-nil}
+use Prim.Native.Nat.{ℕ, _+_, _-_, _*_}
+use mathlib.Core.Path.{_≡_, sym, ap}
+use mathlib.Core.List.{List, [], _∷_, append-nil}
 use native.Mathlib.Omega.{arith}
 use borrow.Author.Needs.{needs}
 use denote.Ref.{now}
-use lib.ListN.{length, getD, set, take, drop}
+use lib.ListN.{getD, take, drop}
 use native.Mathlib.Nat.{add-sub-cancel-left}
 use Rattle.rows.specs.Rooms.{rowAt, part}
 use Rattle.file.specs.Bits.{field}
 use Rattle.file.specs.Layout.{rowFields, entryFields}
-use Rattle.file.specs.Pen.{Ready, Put}
-use Rattle.file.proofs.Pen.{Left, left-start, left-ready, left-step, next-ready, next-step, left-end}
+use Rattle.file.specs.Pen.{Ready}
+use Rattle.file.proofs.Pen.{Left, left-start, left-step, next-ready, next-step, left-end}
 use Rattle.file.proofs.put.put_row.Statement.{statement}
 use Rattle.file.proofs.put.put_row.Tie as tie
 

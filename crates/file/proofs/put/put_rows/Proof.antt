@@ -1,17 +1,15 @@
 -- The rows. The invariant: what is written, followed by the rows from v on, is the whole; the row of v stands first among
 -- them. The frames left grow fewer.
-use Prim.Native.Nat.{ℕ, zero, suc, _+_, _-_, _*_, _%_, _^_, _≤_, _<_}
-use mathlib.Core.Path.{_≡_, refl, sym, ap, ap₂, subst, _∙_}
-use mathlib.Core.List.{List, [], _∷_, _++_}
+use Prim.Native.Nat.{ℕ, suc, _+_, _-_, _≤_, _<_}
+use mathlib.Core.Path.{_≡_, sym, ap, subst, _∙_}
+use mathlib.Core.List.{List, _++_}
 use native.Mathlib.Omega.{arith}
 use borrow.Author.Needs.{needs}
 use denote.Ref.{now}
-use lib.ListN.{length, getD, set, take, drop}
 use native.Mathlib.Numerals.{add-one}
 use native.Mathlib.Nat.{sub-zero}
 use Rattle.file.specs.Layout.{rowFields, rowsFields}
-use Rattle.file.specs.Bits.{Field}
-use Rattle.file.specs.Pen.{Ready, Put, RowIn, RowsIn}
+use Rattle.file.specs.Pen.{RowsIn}
 use Rattle.file.proofs.Pen.{Left, left-start, left-ready, left-step, left-end}
 use Rattle.file.proofs.put.put_rows.Statement.{statement}
 use Rattle.file.proofs.put.put_rows.Tie as tie
@@ -26,11 +24,11 @@ next w labels counts n v h =
     ∙ ap (λ (u : ℕ). rowFields w labels counts v ++ rowsFields w labels counts u (n - (v + 1))) (sym (add-one v))
 
 abbrev Inv-loop : tie.InvT-loop
-Inv-loop out₀ n w labels counts now-at₀ v₀ out now-at v =
-    (v ≤ n) × Left out₀ now-at₀ (rowsFields w labels counts 0 n) out now-at (rowsFields w labels counts v (n - v))
+Inv-loop out₀ n w labels counts tip₀ v₀ out tip v =
+    (v ≤ n) × Left out₀ tip₀ (rowsFields w labels counts 0 n) out tip (rowsFields w labels counts v (n - v))
 
 abbrev μ-loop : tie.MeasureT-loop
-μ-loop out₀ n w labels counts now-at₀ v₀ out now-at v = n - v
+μ-loop out₀ n w labels counts tip₀ v₀ out tip v = n - v
 
 loop-holds : tie.Need-loop-holds Inv-loop μ-loop
 loop-holds c = (omega arith, rw sub-zero (left-start (c .before .before .before .pre .0)))
@@ -67,7 +65,7 @@ returns c =
     let a = c .before .before .before .before .before .args in
     let l = c .before .loop in
     let e : a .n - l .v ≡ 0 = omega arith in
-    left-end (subst (λ (k : ℕ). Left (now (a .out)) (a .pen) (rowsFields (a .w) (now (a .labels)) (now (a .counts)) 0 (a .n)) (l .out) (l .now-at) (rowsFields (a .w) (now (a .labels)) (now (a .counts)) (l .v) k)) e (l .inv .1))
+    left-end (subst (λ (k : ℕ). Left (now (a .out)) (a .pen) (rowsFields (a .w) (now (a .labels)) (now (a .counts)) 0 (a .n)) (l .out) (l .tip) (rowsFields (a .w) (now (a .labels)) (now (a .counts)) (l .v) k)) e (l .inv .1))
 
 pub put-rows-spec : {M : Type 1} → statement M
 put-rows-spec =

@@ -1,21 +1,16 @@
-use Prim.Native.Nat.{ℕ, zero, suc, _+_, _-_, _*_, _/_, _%_, _^_, _≤_, _<_}
-use mathlib.Core.Path.{_≡_, refl, sym, ap, subst, _∙_}
-use mathlib.Core.List.{List, [], _∷_, _++_}
-use mathlib.Core.Logic.{_⊎_, inl, inr, ⊎-elim}
-use mathlib.Core.Bool.{Bool, true, false}
+-- The loop of `clear`: filling the places from `at` on with 0 gives what filling all of them gives. The places left fall.
+use Prim.Native.Nat.{_-_, _≤_}
+use mathlib.Core.Path.{_≡_, refl, sym, _∙_}
 use native.Mathlib.Omega.{arith}
-use borrow.Author.Needs.{needs}
-use lib.ListN.{length, getD, set, take, drop, length-set}
-use native.Mathlib.Nat.{sub-zero}
+use lib.ListN.{length, length-set}
 use Rattle.file.specs.Stores.{filled, nought}
 use Rattle.file.proofs.Stores.{filled-on, filled-end}
 use Rattle.file.proofs.store.clear.Statement.{statement}
 use Rattle.file.proofs.store.clear.Tie as tie
-use Rattle.file.proofs.store.clear.Reads as reads
-use Rattle.file.proofs.store.clear.Lts as lts
 
 abbrev Inv-loop : tie.InvT-loop
-Inv-loop labels₀ base end at₀ labels at = (length labels ≡ length labels₀) × (base ≤ at) × (at ≤ end) × (filled nought labels at (end - at) ≡ filled nought labels₀ base (end - base))
+Inv-loop labels₀ base end at₀ labels at = (length labels ≡ length labels₀) × (base ≤ at) × (at ≤ end) × (filled nought
+    labels at (end - at) ≡ filled nought labels₀ base (end - base))
 
 abbrev μ-loop : tie.MeasureT-loop
 μ-loop labels₀ base end at₀ labels at = end - at

@@ -1,21 +1,15 @@
-use Prim.Native.Nat.{ℕ, zero, suc, _+_, _-_, _*_, _/_, _%_, _^_, _≤_, _<_}
-use mathlib.Core.Path.{_≡_, refl, sym, ap, subst, _∙_}
-use mathlib.Core.List.{List, [], _∷_, _++_}
-use mathlib.Core.Logic.{_⊎_, inl, inr, ⊎-elim}
-use mathlib.Core.Bool.{Bool, true, false}
+-- The loop of `entries`: filling the places from `at` on gives what filling all of them gives, and the next entry is at
+-- `bit`. The places left fall.
+use Prim.Native.Nat.{_+_, _-_, _*_, _≤_}
+use mathlib.Core.Path.{_≡_, refl, sym, ap, _∙_}
 use native.Mathlib.Omega.{arith}
-use borrow.Author.Needs.{needs}
-use lib.ListN.{length, getD, set, take, drop, length-set}
-use native.Mathlib.Nat.{sub-self}
+use lib.ListN.{length}
 use Rattle.file.specs.Bits.{byteLen}
 use Rattle.file.specs.Reader.{entryAt}
 use Rattle.file.specs.Stores.{filled, entryFrom}
 use Rattle.file.proofs.Stores.{filled-on, filled-end}
 use Rattle.file.proofs.store.entries.Statement.{statement}
 use Rattle.file.proofs.store.entries.Tie as tie
-use Rattle.file.proofs.store.entries.Reads as reads
-use Rattle.file.proofs.store.entries.Lts as lts
-use Rattle.file.proofs.store.entry.Reads as entry-reads
 
 abbrev Inv-loop : tie.InvT-loop
 Inv-loop bytes p count labels₀ base end bit₀ at₀ labels bit at = (length labels ≡ length labels₀)
@@ -31,12 +25,21 @@ add-end : tie.Need-add-end Inv-loop μ-loop
 add-end c = omega (arith, c .before .before .pre .room)
 
 loop-holds : tie.Need-loop-holds Inv-loop μ-loop
-loop-holds c = let none : c .before .before .args .base + c .before .before .args .count - c .before .before .args .base ≡ c .before .before .args .count = omega arith in
+loop-holds c =
+    let none : c .before .before .args .base + c .before .before .args .count - c .before .before .args .base ≡
+    c .before .before .args .count = omega arith in
     (refl, omega arith, omega arith, omega arith, ap (filled (entryFrom _ _ _) _ _) none)
 
 entry-requires : tie.Need-entry-requires Inv-loop μ-loop
 unfolding byteLen
-entry-requires c κs = (omega arith, omega (arith, c .before .before .before .before .before .pre .there), omega (arith, c .before .before .before .before .before .pre .room))
+entry-requires c κs = (
+  omega arith,
+  omega (arith, c .before .before .before .before .before .pre .there),
+  omega (
+    arith,
+    c .before .before .before .before .before .pre .room,
+  ),
+)
 
 add-bit : tie.Need-add-bit Inv-loop μ-loop
 add-bit c = omega arith
@@ -54,7 +57,8 @@ loop-again c = (
   omega arith,
   omega arith,
   omega arith,
-  filled-on (entryFrom _ _ _) _ _ _ (c .before .before .before .before .loop-test .taken) (c .before .before .entry .ensures) (ap (entryAt _) (c .before .before .before .before .before .loop .inv .3))
+  filled-on (entryFrom _ _ _) _ _ _ (c .before .before .before .before .loop-test .taken)
+      (c .before .before .entry .ensures) (ap (entryAt _) (c .before .before .before .before .before .loop .inv .3))
       ∙ c .before .before .before .before .before .loop .inv .4,
 )
 

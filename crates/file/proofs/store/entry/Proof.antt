@@ -1,10 +1,7 @@
-use Prim.Native.Nat.{ℕ, zero, suc, _+_, _-_, _*_, _/_, _%_, _^_, _≤_, _<_}
-use mathlib.Core.Path.{_≡_, refl, sym, ap, subst, _∙_}
-use mathlib.Core.List.{List, [], _∷_, _++_}
-use mathlib.Core.Logic.{_⊎_, inl, inr, ⊎-elim}
-use mathlib.Core.Bool.{Bool, true, false}
+-- `entry` stores what the entry's layout makes of the two fields.
+use mathlib.Core.Path.{ap, _∙_}
 use native.Mathlib.Omega.{arith}
-use lib.ListN.{length, getD, set, take, drop, length-set}
+use lib.ListN.{set}
 use borrow.Author.Needs.{needs}
 use mathlib.Core.Path.{ap₂}
 use Rattle.rows.specs.Entry.{entryOf}
@@ -12,10 +9,6 @@ use Rattle.file.specs.Bits.{byteLen}
 use Rattle.file.specs.Reader.{entryAt}
 use Rattle.file.proofs.store.entry.Statement.{statement}
 use Rattle.file.proofs.store.entry.Tie as tie
-use Rattle.file.proofs.store.entry.Reads as reads
-use Rattle.file.proofs.store.entry.Lts as lts
-use Rattle.file.proofs.get.get.Reads as get-reads
-use Rattle.rows.proofs.entry.entry_of.Reads as entry-of-reads
 
 get-requires : tie.Need-get-requires
 unfolding byteLen
@@ -26,7 +19,8 @@ add-get c = search needs
 
 get-requires-2 : tie.Need-get-requires-2
 unfolding byteLen
-get-requires-2 c κs = record { narrow = omega arith; near = omega arith; there = omega (arith, c .before .before .before .pre .1) }
+get-requires-2 c κs =
+    record { narrow = omega arith; near = omega arith; there = omega (arith, c .before .before .before .pre .1) }
 
 entry-of-requires : tie.Need-entry-of-requires
 entry-of-requires c κs = search needs
@@ -42,7 +36,9 @@ same-length c = search needs
 
 returns : tie.Need-returns
 unfolding entryAt
-returns c = ap (set (c .before .before .before .before .before .args .labels .now) (c .before .before .before .before .before .args .at))
+returns c =
+    ap (set (c .before .before .before .before .before .args .labels .now)
+    (c .before .before .before .before .before .args .at))
     (c .entry-of .ensures ∙ ap₂ entryOf (c .before .before .get .ensures) (c .before .get2 .ensures))
 
 pub entry-spec : {M : Type 1} → statement M

@@ -1,11 +1,8 @@
-use Prim.Native.Nat.{ℕ, zero, suc, _+_, _-_, _*_, _/_, _%_, _^_, _≤_, _<_}
-use mathlib.Core.Path.{_≡_, refl, sym, ap, subst, _∙_}
-use mathlib.Core.List.{List, [], _∷_, _++_}
-use mathlib.Core.Logic.{_⊎_, inl, inr, ⊎-elim}
-use mathlib.Core.Bool.{Bool, true, false}
+-- The loop of `order`: filling the places from rank r on gives what filling all of them gives. The ranks left fall.
+use Prim.Native.Nat.{_+_, _-_, _*_, _≤_}
+use mathlib.Core.Path.{_≡_, refl, sym, ap, _∙_}
 use native.Mathlib.Omega.{arith}
-use borrow.Author.Needs.{needs}
-use lib.ListN.{length, getD, set, take, drop, length-set}
+use lib.ListN.{length, length-set}
 use native.Mathlib.Nat.{sub-zero}
 use Rattle.file.specs.Bits.{byteLen}
 use Rattle.file.specs.Reader.{frameAt}
@@ -14,12 +11,10 @@ use Rattle.file.proofs.Stores.{filled-on, filled-end}
 use Rattle.file.proofs.Bits.{field-lt}
 use Rattle.file.proofs.store.order.Statement.{statement}
 use Rattle.file.proofs.store.order.Tie as tie
-use Rattle.file.proofs.store.order.Reads as reads
-use Rattle.file.proofs.store.order.Lts as lts
-use Rattle.file.proofs.get.get.Reads as get-reads
 
 abbrev Inv-loop : tie.InvT-loop
-Inv-loop bytes n order₀ r₀ order r = (length order ≡ length order₀) × (r ≤ n) × (filled (frameAt bytes) order r (n - r) ≡ filled (frameAt bytes) order₀ 0 n)
+Inv-loop bytes n order₀ r₀ order r = (length order ≡ length order₀) × (r ≤ n) × (filled (frameAt bytes) order r (n - r) ≡
+    filled (frameAt bytes) order₀ 0 n)
 
 abbrev μ-loop : tie.MeasureT-loop
 μ-loop bytes n order₀ r₀ order r = n - r
@@ -35,10 +30,21 @@ add-p c = omega arith
 
 get-requires : tie.Need-get-requires Inv-loop μ-loop
 unfolding byteLen
-get-requires c κs = record { narrow = omega arith; near = omega arith; there = omega (arith, c .before .before .before .before .pre .there) }
+get-requires c κs =
+    record {
+      narrow = omega arith;
+      near = omega arith;
+      there = omega (arith, c .before .before .before .before .pre .there);
+    }
 
 cast-order : tie.Need-cast-order Inv-loop μ-loop
-cast-order c = omega (arith, c .get .ensures, field-lt (c .before .before .before .before .before .args .bytes .now) (32 + 12 * c .before .before .loop .r) 12)
+cast-order c =
+    omega (
+      arith,
+      c .get .ensures,
+      field-lt (c .before .before .before .before .before .args .bytes .now) (32 + 12 *
+          c .before .before .loop .r) 12,
+    )
 
 mul-order : tie.Need-mul-order Inv-loop μ-loop
 mul-order c = omega arith
@@ -55,7 +61,8 @@ loop-less c = omega arith
 loop-again : tie.Need-loop-again Inv-loop μ-loop
 unfolding frameAt
 loop-again c = (
-  length-set (c .before .before .loop .order) (c .before .before .loop .r) (c .get .result) ∙ c .before .before .loop .inv .0,
+  length-set (c .before .before .loop .order) (c .before .before .loop .r) (c .get .result) ∙
+      c .before .before .loop .inv .0,
   omega arith,
   filled-on (frameAt _) _ _ _ (c .before .loop-test .taken) refl (c .get .ensures) ∙ c .before .before .loop .inv .2,
 )

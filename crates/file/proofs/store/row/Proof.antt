@@ -1,18 +1,9 @@
-use Prim.Native.Nat.{ℕ, zero, suc, _+_, _-_, _*_, _/_, _%_, _^_, _≤_, _<_}
-use mathlib.Core.Path.{_≡_, refl, sym, ap, subst, _∙_}
-use mathlib.Core.List.{List, [], _∷_, _++_}
-use mathlib.Core.Logic.{_⊎_, inl, inr, ⊎-elim}
-use mathlib.Core.Bool.{Bool, true, false}
-use native.Mathlib.Omega.{arith}
-use lib.ListN.{length, getD, set, take, drop, length-set}
+-- `row`: its entries, and behind them 0, fill its W places as the label room's definition says.
+use mathlib.Core.Path.{_∙_}
 use borrow.Author.Needs.{needs}
 use Rattle.file.proofs.Stores.{filled-row}
 use Rattle.file.proofs.store.row.Statement.{statement}
 use Rattle.file.proofs.store.row.Tie as tie
-use Rattle.file.proofs.store.row.Reads as reads
-use Rattle.file.proofs.store.row.Lts as lts
-use Rattle.file.proofs.store.clear.Reads as clear-reads
-use Rattle.file.proofs.store.entries.Reads as entries-reads
 
 add-entries : tie.Need-add-entries
 add-entries c = search needs
@@ -33,7 +24,10 @@ same-length : tie.Need-same-length
 same-length c = search needs
 
 returns : tie.Need-returns
-returns c = c .before .before .clear .ensures ∙ filled-row _ _ _ _ _ _ _ (c .before .before .before .before .before .before .before .before .before .before .pre .fits) (c .before .before .before .before .before .before .entries .ensures)
+returns c =
+    c .before .before .clear .ensures ∙ filled-row _ _ _ _ _ _ _
+    (c .before .before .before .before .before .before .before .before .before .before .pre .fits)
+    (c .before .before .before .before .before .before .entries .ensures)
 
 pub row-spec : {M : Type 1} → statement M
 row-spec =

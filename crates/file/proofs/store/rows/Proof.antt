@@ -1,24 +1,19 @@
-use Prim.Native.Nat.{ℕ, zero, suc, _+_, _-_, _*_, _/_, _%_, _^_, _≤_, _<_}
-use mathlib.Core.Path.{_≡_, refl, sym, ap, subst, _∙_}
-use mathlib.Core.List.{List, [], _∷_, _++_}
-use mathlib.Core.Logic.{_⊎_, inl, inr, ⊎-elim}
-use mathlib.Core.Bool.{Bool, true, false}
+-- The loop of `rows`: filling the rows and counts from frame v on gives what filling all of them gives (`Stored`). A row
+-- stored keeps that for the next frame; the frames left fall.
+use Prim.Native.Nat.{_-_}
+use mathlib.Core.Path.{refl, sym, _∙_}
 use native.Mathlib.Omega.{arith}
-use borrow.Author.Needs.{needs}
-use lib.ListN.{length, getD, set, take, drop, length-set}
+use lib.ListN.{length}
 use Rattle.file.specs.Bits.{byteLen}
 use Rattle.file.specs.Stores.{Row}
 use Rattle.file.proofs.Stores.{Stored, stored-none, stored-room, stored-row, stored-on, stored-end}
 use Rattle.file.proofs.Bits.{field-lt}
 use Rattle.file.proofs.store.rows.Statement.{statement}
 use Rattle.file.proofs.store.rows.Tie as tie
-use Rattle.file.proofs.store.rows.Reads as reads
-use Rattle.file.proofs.store.rows.Lts as lts
-use Rattle.file.proofs.get.get.Reads as get-reads
-use Rattle.file.proofs.store.row.Reads as row-reads
 
 abbrev Inv-loop : tie.InvT-loop
-Inv-loop bytes n w labels₀ counts₀ p₀ base₀ v₀ labels counts p base v = Stored bytes n w labels₀ counts₀ p base v labels counts
+Inv-loop bytes n w labels₀ counts₀ p₀ base₀ v₀ labels counts p base v = Stored bytes n w labels₀ counts₀ p base v labels
+    counts
 
 abbrev μ-loop : tie.MeasureT-loop
 μ-loop bytes n w labels₀ counts₀ p₀ base₀ v₀ labels counts p base v = n - v
@@ -34,11 +29,19 @@ loop-holds c = stored-none _ _ _ _ _ (c .before .before .before .pre .room) (c .
 
 get-requires : tie.Need-get-requires Inv-loop μ-loop
 unfolding byteLen
-get-requires c κs = let row = stored-row (c .before .before .before .before .before .pre) (c .before .loop .inv) (c .loop-test .taken) refl in
+get-requires c κs =
+    let row = stored-row (c .before .before .before .before .before .pre) (c .before .loop .inv) (c .loop-test .taken) refl
+    in
     record { narrow = omega arith; near = omega (arith, row .near); there = omega (arith, row .there) }
 
 cast-counts : tie.Need-cast-counts Inv-loop μ-loop
-cast-counts c = omega (arith, c .get .ensures, field-lt (c .before .before .before .before .before .before .args .bytes .now) (c .before .before .loop .p) 9)
+cast-counts c =
+    omega (
+      arith,
+      c .get .ensures,
+      field-lt (c .before .before .before .before .before .before .args .bytes .now)
+          (c .before .before .loop .p) 9,
+    )
 
 mul-counts : tie.Need-mul-counts Inv-loop μ-loop
 mul-counts c = omega arith
@@ -47,13 +50,21 @@ slice-write-counts : tie.Need-slice-write-counts Inv-loop μ-loop
 slice-write-counts c = omega arith
 
 row-requires : tie.Need-row-requires Inv-loop μ-loop
-row-requires c κs = stored-row (c .before .before .before .before .before .before .before .pre) (c .before .before .before .loop .inv) (c .before .before .loop-test .taken) (c .before .get .ensures)
+row-requires c κs =
+    stored-row (c .before .before .before .before .before .before .before .pre) (c .before .before .before .loop .inv)
+    (c .before .before .loop-test .taken) (c .before .get .ensures)
 
 -- the row just stored
 stored : (c : tie.After-slice-known3 Inv-loop μ-loop)
-    → Row (c .before .before .before .before .before .before .before .before .before .before .args .bytes .now) (c .before .before .before .before .before .before .loop .p) (c .before .before .before .before .get .result)
-    (c .before .before .before .before .before .before .before .before .before .before .args .w) (length (c .before .before .before .before .before .before .loop .labels)) (c .before .before .before .before .before .before .loop .base)
-stored c = stored-row (c .before .before .before .before .before .before .before .before .before .before .pre) (c .before .before .before .before .before .before .loop .inv) (c .before .before .before .before .before .loop-test .taken) (c .before .before .before .before .get .ensures)
+    → Row (c .before .before .before .before .before .before .before .before .before .before .args .bytes .now)
+    (c .before .before .before .before .before .before .loop .p) (c .before .before .before .before .get .result)
+    (c .before .before .before .before .before .before .before .before .before .before .args .w) (length
+    (c .before .before .before .before .before .before .loop .labels))
+    (c .before .before .before .before .before .before .loop .base)
+stored c =
+    stored-row (c .before .before .before .before .before .before .before .before .before .before .pre)
+    (c .before .before .before .before .before .before .loop .inv)
+    (c .before .before .before .before .before .loop-test .taken) (c .before .before .before .before .get .ensures)
 
 add-p-2 : tie.Need-add-p-2 Inv-loop μ-loop
 add-p-2 c = omega (arith, stored c .near)
@@ -65,7 +76,14 @@ add-p-3 : tie.Need-add-p-3 Inv-loop μ-loop
 add-p-3 c = omega (arith, stored c .near, stored c .fits, stored c .wide)
 
 add-base : tie.Need-add-base Inv-loop μ-loop
-add-base c = omega (arith, stored-room (c .before .before .before .before .before .before .before .before .before .before .pre) (c .before .before .before .before .before .before .loop .inv) (c .before .before .before .before .before .loop-test .taken), c .before .before .before .before .before .before .before .before .before .before .pre .room)
+add-base c =
+    omega (
+      arith,
+      stored-room (c .before .before .before .before .before .before .before .before .before .before .pre)
+          (c .before .before .before .before .before .before .loop .inv)
+          (c .before .before .before .before .before .loop-test .taken),
+      c .before .before .before .before .before .before .before .before .before .before .pre .room,
+    )
 
 add-v : tie.Need-add-v Inv-loop μ-loop
 add-v c = omega arith
@@ -74,7 +92,11 @@ loop-less : tie.Need-loop-less Inv-loop μ-loop
 loop-less c = omega arith
 
 loop-again : tie.Need-loop-again Inv-loop μ-loop
-loop-again c = stored-on (c .before .before .before .before .before .before .before .before .before .before .pre) (c .before .before .before .before .before .before .loop .inv) (c .before .before .before .before .before .loop-test .taken) _ (c .before .before .before .before .get .ensures) (c .before .before .row .ensures)
+loop-again c =
+    stored-on (c .before .before .before .before .before .before .before .before .before .before .pre)
+    (c .before .before .before .before .before .before .loop .inv)
+    (c .before .before .before .before .before .loop-test .taken) _ (c .before .before .before .before .get .ensures)
+    (c .before .before .row .ensures)
 
 same-length : tie.Need-same-length Inv-loop μ-loop
 same-length c = c .before .loop .inv .labelled ∙ sym (c .before .before .before .before .before .pre .room)

@@ -1,19 +1,18 @@
 -- The whole file: header, order and rows, one behind the other from an empty pen on, and the last byte filled up. The number
 -- of the stretch is then the number of the fields, and a stretch of bytes is known by its number.
-use Prim.Native.Nat.{ℕ, zero, suc, _+_, _-_, _*_, _/_, _^_, _≤_, _<_}
-use mathlib.Core.Path.{_≡_, refl, sym, ap, ap₂, subst, _∙_}
-use mathlib.Core.Bool.{Bool, true, false, not, _&&_}
-use mathlib.Core.List.{List, [], _∷_, _++_}
+use Prim.Native.Nat.{ℕ, _*_, _^_, _≤_}
+use mathlib.Core.Path.{_≡_, refl, sym, ap, ap₂, _∙_}
+use mathlib.Core.List.{List, [], _++_}
 use native.Mathlib.Omega.{arith}
 use borrow.Author.Needs.{needs}
 use denote.Ref.{now}
-use lib.ListN.{length, getD, take, drop}
-use native.Mathlib.Nat.{add-zero, zero-add}
+use lib.ListN.{length}
+use native.Mathlib.Nat.{zero-add}
 use mathlib.Core.List.{append-nil}
 use lib.Seq.{take-all}
 use Rattle.file.specs.Bits.{Field, Bytes, val, bitLen, num, bytesOf, byteLen, padLen, packed}
 use Rattle.file.specs.Layout.{headerFields, orderFields, rowsFields, fileFields, fileOf}
-use Rattle.file.specs.Pen.{penBits, penNum, Ready, Put, Closed}
+use Rattle.file.specs.Pen.{penBits, penNum, Put, Closed}
 use Rattle.file.specs.Writer.{Fit}
 use Rattle.file.specs.declared.put.Pen.{Pen}
 use Rattle.file.proofs.Bits.{val-bytes}

@@ -1,14 +1,5 @@
 -- The size test, one bound after the other.
-use Prim.Native.Nat.{ℕ, zero, suc, _+_, _-_, _*_, _/_, _^_, _≤_, _<_}
-use mathlib.Core.Path.{_≡_, refl, sym, ap, ap₂, subst, _∙_}
-use mathlib.Core.Bool.{Bool, true, false, not, _&&_}
-use mathlib.Core.List.{List, [], _∷_, _++_}
-use native.Mathlib.Omega.{arith}
-use borrow.Author.Needs.{needs}
-use denote.Ref.{now}
-use lib.ListN.{length, getD, take, drop}
 use borrow.Author.Tests.{le-leb, lt-leb}
-use lib.Dec.{leb}
 use Rattle.rows.specs.Rooms.{sizesFit}
 use Rattle.file.specs.Writer.{indexSizes}
 use Rattle.file.proofs.writer.sizes_fit.Statement.{statement}

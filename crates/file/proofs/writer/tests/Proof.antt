@@ -1,20 +1,18 @@
 -- The tests, each after those before it have passed.
-use Prim.Native.Nat.{ℕ, zero, suc, _+_, _-_, _*_, _/_, _^_, _≤_, _<_}
-use mathlib.Core.Path.{_≡_, refl, sym, ap, ap₂, subst, _∙_}
-use mathlib.Core.Bool.{Bool, true, false, not, _&&_}
-use mathlib.Core.List.{List, [], _∷_, _++_}
-use native.Mathlib.Omega.{arith}
+use Prim.Native.Nat.{ℕ, _≤_}
+use mathlib.Core.Path.{_≡_, sym, ap₂, _∙_}
+use mathlib.Core.Bool.{true, false}
+use mathlib.Core.List.{List}
 use borrow.Author.Needs.{needs}
 use denote.Ref.{now}
-use lib.ListN.{length, getD, take, drop}
 use Rattle.basics.proofs.Laws.{of-not-true, of-not-false}
-use Rattle.refusal.specs.Tests.{test, _then_}
+use Rattle.refusal.specs.Tests.{_then_}
 use Rattle.refusal.specs.declared.Verdict.{Verdict}
-use Rattle.refusal.specs.declared.Verdict.the-variants.{Fine, Refused}
+use Rattle.refusal.specs.declared.Verdict.the-variants.{Refused}
 use Rattle.refusal.proofs.Laws.{test-fine, test-refused, after-fine, after-refused}
 use Rattle.links.specs.Order.{orderTest, checkOrder}
 use Rattle.links.proofs.Order.{order-alone}
-use Rattle.rows.specs.Rooms.{Rooms, rowsTest, checkRows}
+use Rattle.rows.specs.Rooms.{rowsTest, checkRows}
 use Rattle.rows.proofs.RoomLaws.{rows-alone}
 use Rattle.file.specs.Writer.{indexSizes, indexLengths, writeTests}
 use Rattle.file.proofs.Fit.{sizes-in, lengths-in, rooms-in}

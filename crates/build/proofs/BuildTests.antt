@@ -1,0 +1,138 @@
+-- The build's tests before any walk: which refusal each gives, and what they show when all are passed.
+use Prim.Native.Nat.{ℕ, _+_, _*_, _≤_, _<_}
+use mathlib.Core.Path.{_≡_, refl, sym, ap, _∙_}
+use mathlib.Core.Bool.{Bool, true, false, _&&_}
+use mathlib.Core.List.{List}
+use borrow.Author.Tests.{leb-true, eqb-true}
+use lib.ListN.{length}
+use lib.Dec.{leb, eqb}
+use Rattle.basics.proofs.Laws.{both-true}
+use Rattle.refusal.specs.Numbers.{SIZE, LENGTH}
+use Rattle.refusal.specs.Tests.{test, _then_, refusal}
+use Rattle.refusal.specs.declared.Refusal.{Refusal}
+use Rattle.refusal.specs.declared.Verdict.{Verdict}
+use Rattle.refusal.specs.declared.Verdict.the-variants.{Fine, Refused}
+use Rattle.refusal.proofs.Laws.{test-fine, test-refused, test-held, after-fine, after-refused, then-fine, then-assoc}
+use Rattle.theory.specs.Links.{Block, Order}
+use Rattle.theory.specs.Plain.{ones}
+use Rattle.links.specs.Links.{placesFit, startsTest, listsTest, checkLinks}
+use Rattle.links.specs.Order.{orderTest, checkOrder}
+use Rattle.links.proofs.Links.{links-alone, links-sound}
+use Rattle.links.proofs.Order.{order-alone, order-sound}
+use Rattle.rows.specs.Rooms.{sizesFit}
+use Rattle.build.specs.Build.{buildSizes, buildRooms, buildTests}
+
+-- test 1 passed
+pub record Sizes (n w k places : ℕ) : Type 0 where
+  pub one : 1 ≤ n
+  pub frames : n ≤ 4096
+  pub wide : 1 ≤ w
+  pub width : w ≤ 256
+  pub stop : k ≤ n
+  pub most : places ≤ 65536
+
+-- test 2 passed
+pub record Lengths (n w starts order labels counts met queue : ℕ) : Type 0 where
+  pub starts-long : starts ≡ n + 1
+  pub order-long : order ≡ n
+  pub labels-long : labels ≡ n * w
+  pub counts-long : counts ≡ n
+  pub met-long : met ≡ n
+  pub queue-long : queue ≡ n
+
+pub sizes-hold : (n w k places : ℕ) → buildSizes n w k places ≡ true → Sizes n w k places
+unfolding buildSizes sizesFit placesFit
+sizes-hold n w k places e =
+    let halves = both-true (sizesFit n w) (leb k n && leb places 65536) e in
+    let inner = both-true (leb 1 n && leb n 4096 && leb 1 w) (leb w 256) (halves .0) in
+    let frame = both-true (leb 1 n && leb n 4096) (leb 1 w) (inner .0) in
+    let count = both-true (leb 1 n) (leb n 4096) (frame .0) in
+    let rest = both-true (leb k n) (leb places 65536) (halves .1) in
+    record {
+      one = leb-true 1 n (count .0);
+      frames = leb-true n 4096 (count .1);
+      wide = leb-true 1 w (frame .1);
+      width = leb-true w 256 (inner .1);
+      stop = leb-true k n (rest .0);
+      most = leb-true places 65536 (rest .1);
+    }
+
+pub rooms-hold : (n w starts order labels counts met queue : ℕ) → buildRooms n w starts order labels counts met queue ≡ true
+    → Lengths n w starts order labels counts met queue
+unfolding buildRooms
+rooms-hold n w starts order labels counts met queue e =
+    let a = both-true (eqb starts (n + 1)) (eqb order n && (eqb labels (n * w) && (eqb counts n && (eqb met n && eqb queue n)))) e in
+    let b = both-true (eqb order n) (eqb labels (n * w) && (eqb counts n && (eqb met n && eqb queue n))) (a .1) in
+    let d = both-true (eqb labels (n * w)) (eqb counts n && (eqb met n && eqb queue n)) (b .1) in
+    let f = both-true (eqb counts n) (eqb met n && eqb queue n) (d .1) in
+    let g = both-true (eqb met n) (eqb queue n) (f .1) in
+    record {
+      starts-long = eqb-true starts (n + 1) (a .0);
+      order-long = eqb-true order n (b .0);
+      labels-long = eqb-true labels (n * w) (d .0);
+      counts-long = eqb-true counts n (f .0);
+      met-long = eqb-true met n (g .0);
+      queue-long = eqb-true queue n (g .1);
+    }
+
+module _ (n w k : ℕ) (S L O : List ℕ) (labels counts met queue : ℕ) where
+  pub tests-size : buildSizes n w k (length L) ≡ false → buildTests n w k S L O labels counts met queue ≡ Refused (refusal SIZE 0)
+  unfolding buildTests
+  tests-size e = after-refused _ (test-refused SIZE 0 e)
+
+  module _ (sized : buildSizes n w k (length L) ≡ true) where
+    pub tests-length : buildRooms n w (length S) (length O) labels counts met queue ≡ false
+        → buildTests n w k S L O labels counts met queue ≡ Refused (refusal LENGTH 0)
+    unfolding buildTests
+    tests-length e = after-fine _ (test-fine SIZE 0 sized) ∙ after-refused _ (test-refused LENGTH 0 e)
+
+    module _ (long : buildRooms n w (length S) (length O) labels counts met queue ≡ true) where
+      sizes : Sizes n w k (length L)
+      sizes = sizes-hold n w k (length L) sized
+
+      rooms : Lengths n w (length S) (length O) labels counts met queue
+      rooms = rooms-hold n w (length S) (length O) labels counts met queue long
+
+      links-are : checkLinks n S L ≡ (startsTest n S L then listsTest n S L)
+      links-are = links-alone n S L (sizes .one) (sizes .frames) (sizes .most) (rooms .starts-long)
+
+      rest : buildTests n w k S L O labels counts met queue ≡ (checkLinks n S L then orderTest n O)
+      unfolding buildTests
+      rest =
+          after-fine _ (test-fine SIZE 0 sized)
+          ∙ after-fine _ (test-fine LENGTH 0 long)
+          ∙ sym (then-assoc (startsTest n S L) (listsTest n S L) (orderTest n O))
+          ∙ ap (λ (v : Verdict). v then orderTest n O) (sym links-are)
+
+      pub tests-links : (r : Refusal) → checkLinks n S L ≡ Refused r → buildTests n w k S L O labels counts met queue ≡ Refused r
+      tests-links r e = rest ∙ after-refused _ e
+
+      pub tests-order : checkLinks n S L ≡ Fine → buildTests n w k S L O labels counts met queue ≡ checkOrder n O
+      tests-order e =
+          rest
+          ∙ after-fine _ e
+          ∙ sym (order-alone n O (sizes .one) (sizes .frames) (rooms .order-long))
+
+  -- all passed
+  pub record Passed : Type 0 where
+    pub sizes-fit : Sizes n w k (length L)
+    pub rooms-fit : Lengths n w (length S) (length O) labels counts met queue
+    pub block : Block n 1 S L ones
+    pub order : Order n O
+
+  pub tests-fine : buildTests n w k S L O labels counts met queue ≡ Fine → Passed
+  unfolding buildTests
+  tests-fine e =
+      let a = then-fine (test (buildSizes n w k (length L)) SIZE 0) _ e in
+      let b = then-fine (test (buildRooms n w (length S) (length O) labels counts met queue) LENGTH 0) _ (a .1) in
+      let d = then-fine (startsTest n S L) _ (b .1) in
+      let f = then-fine (listsTest n S L) (orderTest n O) (d .1) in
+      let s : Sizes n w k (length L) = sizes-hold n w k (length L) (test-held _ SIZE 0 (a .0)) in
+      let l : Lengths n w (length S) (length O) labels counts met queue =
+      rooms-hold n w (length S) (length O) labels counts met queue (test-held _ LENGTH 0 (b .0)) in
+      record {
+        sizes-fit = s;
+        rooms-fit = l;
+        block = links-sound n S L (d .0) (f .0) (s .one) (s .frames) (s .most) (l .starts-long);
+        order = order-sound n O (f .1) (l .order-long);
+      }

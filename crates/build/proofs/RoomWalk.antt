@@ -1,0 +1,173 @@
+-- The met room as the first half of a walk leaves it, read by the second half: its marks say what the levels say, so what
+-- is stored are the rows after the walk.
+use Prim.Native.Nat.{ℕ, zero, suc, _+_, _-_, _*_, _≤_, _<_}
+use mathlib.Core.Path.{_≡_, refl, sym, ap, _∙_}
+use mathlib.Core.Bool.{Bool, true, false, cond, not, _&&_}
+use mathlib.Core.List.{List, [], _∷_, _++_}
+use native.Mathlib.Omega.{arith}
+use borrow.Author.Tests.{lt-ltb, le-ltb, ltb-true, ltb-false}
+use lib.ListN.{length, getD, replicate}
+use lib.Dec.{leb, ltb}
+use Rattle.basics.specs.Places.{some, least}
+use Rattle.basics.proofs.Laws.{bcase, lt-or-ge, same-truth, cond-true, cond-false, some-ext, least-most, length-table, getD-table}
+use Rattle.theory.specs.Distance.{far}
+use Rattle.theory.specs.Rows.{Row, answer, keep}
+use Rattle.theory.specs.Walk.{levels, walkRow}
+use Rattle.theory.specs.Plain.{joined}
+use Rattle.build.specs.Build.{labelsOf, countsOf}
+use Rattle.build.specs.Walk.{soFar, levelOf, kept, mark, metRoom, walkFits}
+use Rattle.build.specs.Settle.{rowsIn, isKept, lacksRoom, isFar, fitsAll, noneFar, gain, rowsAfter, settleOf, walkedRows, walkNear, walkOf, ifMade, WalkOut}
+use Rattle.build.specs.declared.settle.Walked.{Walked}
+use Rattle.build.specs.declared.settle.Walked.the-variants.{Made, Full, Far}
+use Rattle.build.proofs.RoomLaws.{labels-ext, counts-ext}
+use Rattle.build.proofs.RoomMarks.{kept-mark, unmet-mark, dropped-mark}
+
+-- ---- one mark
+
+module _ (most level answered : ℕ) (few : most < 65535) (cap : answered ≤ most) where
+  mark-yes : level < answered → mark most level answered ≡ level + 1
+  unfolding mark
+  mark-yes h = cond-true _ _ (lt-ltb level most (omega arith)) ∙ cond-true _ _ (lt-ltb level answered h)
+
+  mark-drop : level < most → answered ≤ level → mark most level answered ≡ level + 1 + 65536
+  unfolding mark
+  mark-drop h k = cond-true _ _ (lt-ltb level most h) ∙ cond-false _ _ (le-ltb level answered k)
+
+  mark-none : most ≤ level → mark most level answered ≡ 0
+  unfolding mark
+  mark-none h = cond-false _ _ (le-ltb level most h)
+
+  -- it says kept exactly if the frame is met below the answer so far
+  mark-kept : isKept (mark most level answered) ≡ ltb level answered
+  mark-kept =
+      lt-or-ge level answered
+      (λ h.
+      ap isKept (mark-yes h) ∙ kept-mark (level + 1) (omega arith) (omega arith) ∙ sym (lt-ltb level answered h))
+      (λ h.
+      lt-or-ge level most
+      (λ l. ap isKept (mark-drop l h) ∙ dropped-mark (level + 1 + 65536) (omega arith))
+      (λ l. ap isKept (mark-none l) ∙ unmet-mark 0 (omega arith))
+      ∙ sym (le-ltb level answered h))
+
+  gain-keep : (rank : ℕ) (x : Row) → gain rank (mark most level answered) x ≡ keep rank level answered x
+  unfolding gain keep
+  gain-keep rank x =
+      bcase (ltb level answered)
+      (λ e.
+      let is : mark most level answered - 1 ≡ level = omega (arith, mark-yes (ltb-true level answered e)) in
+      cond-true _ _ (mark-kept ∙ e) ∙ ap (λ (j : ℕ). x ++ ((rank, j) ∷ [])) is ∙ sym (cond-true _ _ e))
+      (λ e. cond-false _ _ (mark-kept ∙ e) ∙ sym (cond-false _ _ e))
+
+  lacks-is : (w count : ℕ) → lacksRoom w count (mark most level answered) ≡ ltb level answered && leb w count
+  unfolding lacksRoom
+  lacks-is w count = ap (λ (b : Bool). b && leb w count) mark-kept
+
+  far-is : isFar (mark most level answered) ≡ ltb level answered && ltb 4095 level
+  unfolding isFar
+  far-is =
+      ap (λ (b : Bool). b && ltb 4096 (mark most level answered)) mark-kept
+      ∙ bcase (ltb level answered)
+      (λ e.
+      let is : mark most level answered ≡ level + 1 = mark-yes (ltb-true level answered e) in
+      rw e
+      (same-truth (ltb 4096 (mark most level answered)) (ltb 4095 level)
+      (λ l. lt-ltb 4095 level (omega (arith, ltb-true 4096 (mark most level answered) l)))
+      (λ l. lt-ltb 4096 (mark most level answered) (omega (arith, ltb-true 4095 level l)))))
+      (λ e. rw e refl)
+
+-- ---- the whole met room
+
+module _ (n w : ℕ) (S L labels counts : List ℕ) (hub : ℕ) (frames : n ≤ 4096) where
+  length-met : length (metRoom n w S L labels counts hub) ≡ n
+  unfolding metRoom
+  length-met =
+      length-table n (λ v. mark (far 1 n) (levelOf n w S L labels counts hub v) (soFar n w labels counts hub v))
+
+  met-at : (v : ℕ) → v < n
+      → getD (metRoom n w S L labels counts hub) v 0
+      ≡ mark (far 1 n) (levelOf n w S L labels counts hub v) (soFar n w labels counts hub v)
+  unfolding metRoom
+  met-at v h =
+      getD-table n (λ u. mark (far 1 n) (levelOf n w S L labels counts hub u) (soFar n w labels counts hub u)) v 0 h
+
+  few : far 1 n < 65535
+  unfolding far
+  few = omega arith
+
+  so-far-cap : (v : ℕ) → soFar n w labels counts hub v ≤ far 1 n
+  unfolding soFar answer
+  so-far-cap v = least-most (far 1 n) n _
+
+  fits-is : fitsAll w counts (metRoom n w S L labels counts hub) ≡ walkFits n w S L labels counts hub
+  unfolding fitsAll walkFits kept
+  fits-is =
+      rw length-met
+      (ap not
+      (some-ext _ (λ v. ltb (levelOf n w S L labels counts hub v) (soFar n w labels counts hub v) && leb w (getD counts v 0)) 0 n
+      (λ v l h.
+      ap (lacksRoom w (getD counts v 0)) (met-at v (omega arith))
+      ∙ lacks-is (far 1 n) (levelOf n w S L labels counts hub v) (soFar n w labels counts hub v) few (so-far-cap v) w (getD counts v 0))))
+
+  none-far-is : noneFar (metRoom n w S L labels counts hub) ≡ walkNear n w S L labels counts hub
+  unfolding noneFar walkNear kept
+  none-far-is =
+      rw length-met
+      (ap not
+      (some-ext _
+      (λ v. ltb (levelOf n w S L labels counts hub v) (soFar n w labels counts hub v) && ltb 4095 (levelOf n w S L labels counts hub v)) 0 n
+      (λ v l h.
+      ap isFar (met-at v (omega arith))
+      ∙ far-is (far 1 n) (levelOf n w S L labels counts hub v) (soFar n w labels counts hub v) few (so-far-cap v))))
+
+  settle-is : settleOf w counts (metRoom n w S L labels counts hub) ≡ walkOf n w S L labels counts hub
+  unfolding settleOf walkOf
+  settle-is =
+      ap (λ (b : Bool). cond b (cond (noneFar (metRoom n w S L labels counts hub)) Made Far) Full) fits-is
+      ∙ ap (λ (b : Bool). cond (walkFits n w S L labels counts hub) (cond b Made Far) Full) none-far-is
+
+  -- the rows stored are those after the walk
+  rows-are : (rank v : ℕ) → v < n
+      → rowsAfter w rank labels counts (metRoom n w S L labels counts hub) v ≡ walkedRows n w S L labels counts rank hub v
+  unfolding rowsAfter walkedRows walkRow levelOf soFar rowsIn
+  rows-are rank v h =
+      ap (λ (m : ℕ). gain rank m (rowsIn w labels counts v)) (met-at v h)
+      ∙ gain-keep (far 1 n) (levelOf n w S L labels counts hub v) (soFar n w labels counts hub v) few (so-far-cap v) rank
+      (rowsIn w labels counts v)
+
+  -- the same for a met room that is the one the first half leaves
+  module _ (met : List ℕ) (is : met ≡ metRoom n w S L labels counts hub) where
+    pub met-long : length met ≡ n
+    met-long = ap length is ∙ length-met
+
+    settled-is : settleOf w counts met ≡ walkOf n w S L labels counts hub
+    settled-is = ap (settleOf w counts) is ∙ settle-is
+
+    after-is : (rank v : ℕ) → v < n → rowsAfter w rank labels counts met v ≡ walkedRows n w S L labels counts rank hub v
+    after-is rank v h = ap (λ (m : List ℕ). rowsAfter w rank labels counts m v) is ∙ rows-are rank v h
+
+    stored-labels : (rank : ℕ) → 1 ≤ w → labelsOf (length met) w (rowsAfter w rank labels counts met)
+        ≡ labelsOf n w (walkedRows n w S L labels counts rank hub)
+    stored-labels rank wide =
+        rw met-long
+        (labels-ext n w (rowsAfter w rank labels counts met) (walkedRows n w S L labels counts rank hub) wide (after-is rank))
+
+    stored-counts : (rank : ℕ) → countsOf (length met) (rowsAfter w rank labels counts met)
+        ≡ countsOf n (walkedRows n w S L labels counts rank hub)
+    stored-counts rank =
+        rw met-long (counts-ext n (rowsAfter w rank labels counts met) (walkedRows n w S L labels counts rank hub) (after-is rank))
+
+    -- what the second half leaves, told by levels
+    pub walk-left : (rank : ℕ) → 1 ≤ w → (walked : Walked) (labels′ counts′ met′ queue′ : List ℕ)
+        → walked ≡ settleOf w counts met
+        → labels′ ≡ ifMade walked (labelsOf (length met) w (rowsAfter w rank labels counts met)) labels
+        → counts′ ≡ ifMade walked (countsOf (length met) (rowsAfter w rank labels counts met)) counts
+        → met′ ≡ replicate (length met) 0 → queue′ ≡ replicate (length met) 0
+        → WalkOut n w S L labels counts rank hub walked labels′ counts′ met′ queue′
+    walk-left rank wide walked labels′ counts′ met′ queue′ answer rows numbers m q =
+        record {
+          answer = answer ∙ settled-is;
+          rows = rows ∙ ap (λ (l : List ℕ). ifMade walked l labels) (stored-labels rank wide);
+          numbers = numbers ∙ ap (λ (l : List ℕ). ifMade walked l counts) (stored-counts rank);
+          met-zero = m ∙ ap (λ (j : ℕ). replicate j 0) met-long;
+          queue-zero = q ∙ ap (λ (j : ℕ). replicate j 0) met-long;
+        }

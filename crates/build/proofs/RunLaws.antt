@@ -1,0 +1,181 @@
+-- The run of walks by the row rule: rooms that hold the rule's rows at rank r are sound and hold nothing else, the walk of
+-- rank r over them makes the rows at r + 1, and it is refused exactly where the rule's rows are over W or over 4,095 joins.
+use Prim.Native.Nat.{ℕ, zero, suc, _+_, _-_, _*_, _≤_, _<_}
+use mathlib.Core.Path.{_≡_, refl, sym, ap, subst, _∙_}
+use mathlib.Core.Bool.{Bool, true, false, cond, not, _&&_, _||_}
+use mathlib.Core.List.{List, [], _∷_, _++_}
+use native.Mathlib.Omega.{arith}
+use borrow.Author.Tests.{lt-ltb, le-ltb, ltb-true, le-leb, lt-leb, leb-true}
+use lib.ListN.{length, getD, length-append}
+use lib.Dec.{leb, ltb}
+use Rattle.basics.specs.Places.{some}
+use Rattle.basics.proofs.Laws.{bcase, same-truth, cond-true, cond-false, some-ext}
+use Rattle.theory.specs.Distance.{far}
+use Rattle.theory.specs.Links.{Block, Order, hubOf}
+use Rattle.theory.specs.Rows.{Row, hubs, keep, ruleRow, answer}
+use Rattle.theory.specs.Walk.{walkRow}
+use Rattle.theory.specs.Plain.{ones, joined, joinsTo, rowBy}
+use Rattle.theory.proofs.Rule.{rankAt, joinsAt, snoc-last}
+use Rattle.theory.proofs.Plain.{plain-rising, plain-places, walk-out}
+use Rattle.rows.specs.Entry.{entryOf, rankOf, decode, encode}
+use Rattle.rows.specs.Rooms.{rowAt}
+use Rattle.rows.proofs.Laws.{Fits, fits-none, fits-more, decode-encode, rank-entry, getD-encode}
+use Rattle.build.specs.Build.{labelsOf, countsOf, fullAt, farFrame, farAt}
+use Rattle.build.specs.Explore.{SoundRows}
+use Rattle.build.specs.Walk.{soFar, levelOf, kept, walkFits}
+use Rattle.build.specs.Settle.{rowsIn, Laid, walkedRows, walkNear, walkOf}
+use Rattle.build.specs.declared.settle.Walked.{Walked}
+use Rattle.build.specs.declared.settle.Walked.the-variants.{Made, Full, Far}
+use Rattle.build.proofs.RoomLaws.{row-is, labels-ext, counts-ext, count-at}
+
+-- ---- one kept entry
+
+-- a row of at most w entries is over w with one more exactly if it has w and gets one
+over-width : (r m p w : ℕ) (x : Row) → length x ≤ w → ltb m p && leb w (length x) ≡ ltb w (length (keep r m p x))
+unfolding keep
+over-width r m p w x fits =
+    bcase (ltb m p)
+    (λ e.
+    rw e
+    (same-truth (leb w (length x)) (ltb w (length (x ++ ((r, m) ∷ []))))
+    (λ l. lt-ltb w (length (x ++ ((r, m) ∷ []))) (omega (arith, length-append x ((r, m) ∷ []), leb-true w (length x) l)))
+    (λ l. le-leb w (length x) (omega (arith, length-append x ((r, m) ∷ []), ltb-true w (length (x ++ ((r, m) ∷ []))) l)))))
+    (λ e. rw e (sym (le-ltb w (length x) fits)))
+
+-- two entries behind the same row that give the same row are the same, or neither is there
+kept-same : (r m p m′ p′ : ℕ) (x : Row) (b : ℕ → Bool) → keep r m p x ≡ keep r m′ p′ x → ltb m p && b m ≡ ltb m′ p′ && b m′
+unfolding keep
+kept-same r m p m′ p′ x b =
+    bcase (ltb m p)
+    (λ e.
+    bcase (ltb m′ p′)
+    (λ f.
+    rw (e, f)
+    (λ (same : x ++ ((r, m) ∷ []) ≡ x ++ ((r, m′) ∷ [])).
+    ap b
+    (ap (λ (z : ℕ × ℕ). z .1) (sym (snoc-last x (r, m) (length x) refl))
+    ∙ ap (λ (y : Row). joinsAt y (length x)) same
+    ∙ ap (λ (z : ℕ × ℕ). z .1) (snoc-last x (r, m′) (length x) refl))))
+    (λ f.
+    rw (e, f)
+    (λ (same : x ++ ((r, m) ∷ []) ≡ x). absurd (omega (arith, ap length same, length-append x ((r, m) ∷ []))))))
+    (λ e.
+    bcase (ltb m′ p′)
+    (λ f.
+    rw (e, f)
+    (λ (same : x ≡ x ++ ((r, m′) ∷ [])). absurd (omega (arith, ap length same, length-append x ((r, m′) ∷ [])))))
+    (λ f. rw (e, f) (λ same. refl)))
+
+-- ---- entries that fit
+
+fits-places : (x : Row) → ((i : ℕ) → i < length x → (rankAt x i < 65536) × (joinsAt x i < 65536)) → Fits x
+fits-places [] all = fits-none
+fits-places (e ∷ x) all =
+    fits-more (all 0 (omega arith) .0) (all 0 (omega arith) .1) (fits-places x (λ i h. all (suc i) (omega arith)))
+
+-- ---- rooms that hold the rule's rows at rank r
+
+module _ {n : ℕ} {S L O : List ℕ} (block : Block n 1 S L ones) (order : Order n O) (w r : ℕ) (frames : n ≤ 4096)
+    (wide : 1 ≤ w) (below : r ≤ n) (fit : (v : ℕ) → v < n → length (rowBy n S L O r v) ≤ w) where
+  rule-fits : (v : ℕ) → v < n → Fits (rowBy n S L O r v)
+  rule-fits v h =
+      fits-places (rowBy n S L O r v)
+      (λ i l.
+      let at : (rankAt (rowBy n S L O r v) i < r) × (joinsAt (rowBy n S L O r v) i < n) = plain-places block order r v i below h l in
+      (omega arith, omega arith))
+
+  pub rows-back : (v : ℕ) → v < n
+      → rowsIn w (labelsOf n w (rowBy n S L O r)) (countsOf n (rowBy n S L O r)) v ≡ rowBy n S L O r v
+  unfolding rowsIn
+  rows-back v h = ap decode (row-is n w (rowBy n S L O r) v h (fit v h)) ∙ decode-encode (rule-fits v h)
+
+  pub laid-back : Laid n w (labelsOf n w (rowBy n S L O r)) (countsOf n (rowBy n S L O r))
+  laid-back =
+      record {
+        places =
+            labels-ext n w (rowBy n S L O r) (rowsIn w (labelsOf n w (rowBy n S L O r)) (countsOf n (rowBy n S L O r))) wide
+            (λ v h. sym (rows-back v h));
+        numbers =
+            counts-ext n (rowBy n S L O r) (rowsIn w (labelsOf n w (rowBy n S L O r)) (countsOf n (rowBy n S L O r)))
+            (λ v h. sym (rows-back v h));
+      }
+
+  rank-back : (v i : ℕ) → v < n → i < length (rowBy n S L O r v)
+      → rankOf (getD (rowAt w (labelsOf n w (rowBy n S L O r)) (countsOf n (rowBy n S L O r)) v) i 0) ≡ rankAt (rowBy n S L O r v) i
+  rank-back v i h l =
+      let at : (rankAt (rowBy n S L O r v) i < r) × (joinsAt (rowBy n S L O r v) i < n) = plain-places block order r v i below h l in
+      ap (λ (row : List ℕ). rankOf (getD row i 0)) (row-is n w (rowBy n S L O r) v h (fit v h))
+      ∙ ap rankOf (getD-encode (rowBy n S L O r v) i l)
+      ∙ rank-entry (rankAt (rowBy n S L O r v) i) (joinsAt (rowBy n S L O r v) i) (omega arith)
+
+  pub sound-back : SoundRows n w (labelsOf n w (rowBy n S L O r)) (countsOf n (rowBy n S L O r))
+  sound-back =
+      record {
+        fits = λ v h. omega (arith, count-at n (rowBy n S L O r) v h, fit v h);
+        ranks =
+            λ v i h l.
+            let k : i < length (rowBy n S L O r v) = omega (arith, count-at n (rowBy n S L O r) v h) in
+            omega (arith, rank-back v i h k, plain-rising n S L O r v .below i k);
+        rising =
+            λ v i j h less l.
+            let k : j < length (rowBy n S L O r v) = omega (arith, count-at n (rowBy n S L O r) v h) in
+            let m : i < length (rowBy n S L O r v) = omega arith in
+            omega (arith, rank-back v i h m, rank-back v j h k, plain-rising n S L O r v .rise i j less k);
+      }
+
+  module _ (less : r < n) where
+    -- the walk of rank r makes the rows at r + 1
+    pub rows-next : (v : ℕ) → v < n
+        → walkedRows n w S L (labelsOf n w (rowBy n S L O r)) (countsOf n (rowBy n S L O r)) r (hubOf O r) v ≡ rowBy n S L O (suc r) v
+    unfolding walkedRows
+    rows-next v h =
+        walk-out block order (rowsIn w (labelsOf n w (rowBy n S L O r)) (countsOf n (rowBy n S L O r))) r v less h rows-back
+
+    full-frame : (v : ℕ) → v < n
+        → kept n w S L (labelsOf n w (rowBy n S L O r)) (countsOf n (rowBy n S L O r)) (hubOf O r) v
+        && leb w (getD (countsOf n (rowBy n S L O r)) v 0)
+        ≡ ltb w (length (rowBy n S L O (suc r) v))
+    unfolding kept walkedRows walkRow levelOf soFar rowsIn
+    full-frame v h =
+        let labels : List ℕ = labelsOf n w (rowBy n S L O r) in
+        let counts : List ℕ = countsOf n (rowBy n S L O r) in
+        let level : ℕ = levelOf n w S L labels counts (hubOf O r) v in
+        let answered : ℕ = soFar n w labels counts (hubOf O r) v in
+        let long : getD counts v 0 ≡ length (rowsIn w labels counts v) =
+        count-at n (rowBy n S L O r) v h ∙ ap (λ (x : Row). length x) (sym (rows-back v h)) in
+        ap (λ (c : ℕ). ltb level answered && leb w c) long
+        ∙ over-width r level answered w (rowsIn w labels counts v)
+        (omega (arith, long, count-at n (rowBy n S L O r) v h, fit v h))
+        ∙ ap (λ (x : Row). ltb w (length x)) (rows-next v h)
+
+    far-frame : (v : ℕ) → v < n
+        → kept n w S L (labelsOf n w (rowBy n S L O r)) (countsOf n (rowBy n S L O r)) (hubOf O r) v
+        && ltb 4095 (levelOf n w S L (labelsOf n w (rowBy n S L O r)) (countsOf n (rowBy n S L O r)) (hubOf O r) v)
+        ≡ farFrame n S L O r v
+    unfolding kept walkedRows walkRow levelOf soFar rowsIn farFrame rowBy ruleRow
+    far-frame v h =
+        let labels : List ℕ = labelsOf n w (rowBy n S L O r) in
+        let counts : List ℕ = countsOf n (rowBy n S L O r) in
+        let level : ℕ = levelOf n w S L labels counts (hubOf O r) v in
+        let answered : ℕ = soFar n w labels counts (hubOf O r) v in
+        kept-same r level answered (joinsTo n S L (hubOf O r) v) (hubs (far 1 n) (joinsTo n S L) (hubOf O) r (hubOf O r) v)
+        (rowBy n S L O r v) (λ m. ltb 4095 m) (ap (keep r level answered) (sym (rows-back v h)) ∙ rows-next v h)
+
+    -- it has no room exactly where the rule's rows at r + 1 are over w
+    walk-full : walkFits n w S L (labelsOf n w (rowBy n S L O r)) (countsOf n (rowBy n S L O r)) (hubOf O r) ≡ not (fullAt n w S L O r)
+    unfolding walkFits fullAt
+    walk-full = ap not (some-ext _ _ 0 n (λ v l h. full-frame v (omega arith)))
+
+    -- it is too far exactly where the rule's entries of rank r are over 4,095 joins
+    walk-far : walkNear n w S L (labelsOf n w (rowBy n S L O r)) (countsOf n (rowBy n S L O r)) (hubOf O r) ≡ not (farAt n S L O r)
+    unfolding walkNear farAt
+    walk-far = ap not (some-ext _ _ 0 n (λ v l h. far-frame v (omega arith)))
+
+    pub walk-is : walkOf n w S L (labelsOf n w (rowBy n S L O r)) (countsOf n (rowBy n S L O r)) (hubOf O r)
+        ≡ cond (fullAt n w S L O r) Full (cond (farAt n S L O r) Far Made)
+    unfolding walkOf
+    walk-is =
+        rw (walk-full, walk-far)
+        (bcase (fullAt n w S L O r)
+        (λ e. rw e refl)
+        (λ e. bcase (farAt n S L O r) (λ f. rw (e, f) refl) (λ f. rw (e, f) refl)))

@@ -1,0 +1,88 @@
+-- Where a run of walks stops: at the first rank at which the rule's rows are over W or over 4,095 joins, or at k.
+use Prim.Native.Nat.{ℕ, zero, suc, _+_, _-_, _*_, _/_, _%_, _≤_, _<_}
+use mathlib.Core.Path.{_≡_, refl, sym, ap, _∙_}
+use mathlib.Core.Bool.{Bool, true, false, cond, _||_}
+use mathlib.Core.List.{List, []}
+use native.Mathlib.Omega.{arith}
+use borrow.Author.Tests.{eq-eqb, ne-eqb, ltb-false}
+use lib.ListN.{length, getD, replicate, length-replicate, getD-replicate}
+use lib.Dec.{eqb, ltb}
+use lib.Seq.{ext-getD}
+use Rattle.basics.specs.Places.{first, some}
+use Rattle.basics.proofs.Laws.{first-is, first-none, some-not, either-left, either-right, either-false, cond-true, cond-false}
+use Rattle.refusal.specs.Numbers.{ROOM, FAR}
+use Rattle.refusal.specs.Tests.{test, refusal}
+use Rattle.refusal.specs.declared.Verdict.the-variants.{Fine, Refused}
+use Rattle.refusal.proofs.Laws.{test-fine, test-refused}
+use Rattle.theory.specs.Rows.{Row}
+use Rattle.theory.specs.Plain.{rowBy}
+use Rattle.theory.proofs.Plain.{row-none}
+use Rattle.rows.specs.Entry.{encode}
+use Rattle.build.specs.Build.{labelsOf, countsOf, fullAt, farAt, stopAt, walksTest}
+use Rattle.build.proofs.RoomLaws.{label-at, length-labels, length-counts, count-at}
+
+-- at rank r one of the two is so
+abbrev pub stops : ℕ → ℕ → List ℕ → List ℕ → List ℕ → ℕ → Bool
+stops n w S L O r = fullAt n w S L O r || farAt n S L O r
+
+no-entry : (i : ℕ) → getD (encode []) i 0 ≡ 0
+unfolding encode
+no-entry i = refl
+
+module _ (n w : ℕ) (S L O : List ℕ) where
+  -- before any walk the rows are empty, and the rooms 0
+  pub labels-empty : labelsOf n w (rowBy n S L O 0) ≡ replicate (n * w) 0
+  labels-empty =
+      ext-getD 0 (labelsOf n w (rowBy n S L O 0)) (replicate (n * w) 0)
+      (length-labels n w (rowBy n S L O 0) ∙ sym (length-replicate (n * w) 0))
+      (λ p h.
+      let low : p < n * w = omega (arith, length-labels n w (rowBy n S L O 0)) in
+      label-at n w (rowBy n S L O 0) p low
+      ∙ ap (λ (x : Row). getD (encode x) (p % w) 0) (row-none n S L O (p / w))
+      ∙ no-entry (p % w)
+      ∙ sym (getD-replicate (n * w) p 0 0 low))
+
+  pub counts-empty : countsOf n (rowBy n S L O 0) ≡ replicate n 0
+  counts-empty =
+      ext-getD 0 (countsOf n (rowBy n S L O 0)) (replicate n 0)
+      (length-counts n (rowBy n S L O 0) ∙ sym (length-replicate n 0))
+      (λ v h.
+      let low : v < n = omega (arith, length-counts n (rowBy n S L O 0)) in
+      count-at n (rowBy n S L O 0) v low
+      ∙ ap (λ (x : Row). length x) (row-none n S L O v)
+      ∙ sym (getD-replicate n v 0 0 low))
+
+  -- where no rank before r stops, the rows at r have at most w entries
+  pub fit-upto : (r : ℕ) → ((j : ℕ) → j < r → stops n w S L O j ≡ false) → (v : ℕ) → v < n → length (rowBy n S L O r v) ≤ w
+  unfolding fullAt
+  fit-upto zero none v h = omega (arith, ap (λ (x : Row). length x) (row-none n S L O v))
+  fit-upto (suc r) none v h =
+      ltb-false w (length (rowBy n S L O (suc r) v))
+      (some-not (λ u. ltb w (length (rowBy n S L O (suc r) u))) 0 n v
+      (either-false (fullAt n w S L O r) (farAt n S L O r) (none r (omega arith)) .0) (omega arith) (omega arith))
+
+  module _ (k r : ℕ) (below : r < k) (none : (j : ℕ) → j < r → stops n w S L O j ≡ false) where
+    pub stop-here : stops n w S L O r ≡ true → stopAt n w k S L O ≡ r
+    unfolding stopAt
+    stop-here e = first-is (stops n w S L O) 0 k r (omega arith) (omega arith) e (λ j l h. none j h)
+
+    -- ROOM at the rank
+    pub run-full : fullAt n w S L O r ≡ true → walksTest n w k S L O ≡ Refused (refusal ROOM r)
+    unfolding walksTest
+    run-full e =
+        rw (stop-here (either-left (fullAt n w S L O r) (farAt n S L O r) e), e) (test-refused ROOM r (ne-eqb r k (omega arith)))
+
+    -- FAR at 0
+    pub run-far : fullAt n w S L O r ≡ false → farAt n S L O r ≡ true → walksTest n w k S L O ≡ Refused (refusal FAR 0)
+    unfolding walksTest
+    run-far e f =
+        rw (stop-here (either-right (fullAt n w S L O r) (farAt n S L O r) f), e) (test-refused FAR 0 (ne-eqb r k (omega arith)))
+
+  module _ (k : ℕ) (none : (j : ℕ) → j < k → stops n w S L O j ≡ false) where
+    pub stop-end : stopAt n w k S L O ≡ k
+    unfolding stopAt
+    stop-end = first-none (stops n w S L O) 0 k (λ j l h. none j (omega arith)) ∙ omega arith
+
+    pub run-end : walksTest n w k S L O ≡ Fine
+    unfolding walksTest
+    run-end = test-fine _ _ (eq-eqb (stopAt n w k S L O) k stop-end)

@@ -1,0 +1,122 @@
+-- The invariant: the state of a run at the present rank (RunState). A walk that is made takes it to the next rank, one that
+-- is not ends it there; the ranks left up to k fall.
+use Prim.Native.Nat.{ℕ, _+_, _-_, _*_, _≤_, _<_}
+use mathlib.Core.Path.{_≡_, refl, sym, ap, subst, _∙_}
+use mathlib.Core.List.{List}
+use native.Mathlib.Omega.{arith}
+use borrow.Author.Needs.{needs}
+use lib.ListN.{length, getD, replicate, length-replicate}
+use Rattle.build.proofs.RunState.{Running, run-begins, run-ends, run-lengths, run-ready, run-next, run-stops}
+use Rattle.build.proofs.run.run.Statement.{statement}
+use Rattle.build.proofs.run.run.Tie as tie
+
+abbrev Inv-loop : tie.InvT-loop
+Inv-loop w k starts places order labels₀ counts₀ met₀ queue₀ noted₀ rank₀ labels counts met queue noted rank =
+    Running (length counts₀) w k starts places order rank labels counts met queue noted
+
+abbrev μ-loop : tie.MeasureT-loop
+μ-loop w k starts places order labels₀ counts₀ met₀ queue₀ noted₀ rank₀ labels counts met queue noted rank = k - rank
+
+loop-holds : tie.Need-loop-holds Inv-loop μ-loop
+loop-holds c = run-begins (c .before .before .before .before .before .before .before .before .pre)
+
+mul-hub : tie.Need-mul-hub Inv-loop μ-loop
+mul-hub c = omega (arith, c .before .before .before .before .before .before .before .before .before .before .pre .order .long, c .before .before .before .before .before .before .before .before .before .before .pre .stop)
+
+shared-slice-read-hub : tie.Need-shared-slice-read-hub Inv-loop μ-loop
+shared-slice-read-hub c = omega (arith, c .before .before .before .before .before .before .before .before .before .before .before .pre .order .long, c .before .before .before .before .before .before .before .before .before .before .before .pre .stop)
+
+cast-hub : tie.Need-cast-hub Inv-loop μ-loop
+cast-hub c = omega (arith, c .shared-slice-known4 .given (c .before .before .loop .rank))
+
+walk-requires : tie.Need-walk-requires Inv-loop μ-loop
+walk-requires c κs = run-ready (c .before .before .before .before .before .before .before .loop .rank) (c .before .before .before .before .before .before .before .before .before .before .before .before .before .before .before .before .pre) (c .before .before .before .before .before .before .before .loop .inv) (c .before .before .before .before .before .before .loop-test .taken)
+
+verdict-of-requires : tie.Need-verdict-of-requires Inv-loop μ-loop
+verdict-of-requires c κs = search needs
+
+enum-told : tie.Need-enum-told Inv-loop μ-loop
+enum-told c = search needs
+
+enum-told-2 : tie.Need-enum-told-2 Inv-loop μ-loop
+enum-told-2 c = search needs
+
+same-length : tie.Need-same-length Inv-loop μ-loop
+same-length c = c .before .before .before .before .before .before .before .before .before .before .before .before .before .walk .kept .1 .1 .1 .1 .0 ∙ run-lengths (c .before .before .before .before .before .before .before .before .before .before .before .before .before .before .before .before .before .before .before .before .before .before .before .before .before .before .before .before .before .before .pre) (c .before .before .before .before .before .before .before .before .before .before .before .before .before .before .before .before .before .before .before .before .before .loop .inv) .0
+
+same-length-2 : tie.Need-same-length-2 Inv-loop μ-loop
+same-length-2 c = c .before .before .before .before .before .before .before .before .before .before .before .before .before .walk .kept .1 .1 .1 .1 .1 .0 ∙ run-lengths (c .before .before .before .before .before .before .before .before .before .before .before .before .before .before .before .before .before .before .before .before .before .before .before .before .before .before .before .before .before .before .pre) (c .before .before .before .before .before .before .before .before .before .before .before .before .before .before .before .before .before .before .before .before .before .loop .inv) .1
+
+same-length-3 : tie.Need-same-length-3 Inv-loop μ-loop
+same-length-3 c = c .before .before .before .before .before .before .before .before .before .before .before .before .before .walk .kept .1 .1 .1 .1 .1 .1 .1 .0 ∙ run-lengths (c .before .before .before .before .before .before .before .before .before .before .before .before .before .before .before .before .before .before .before .before .before .before .before .before .before .before .before .before .before .before .pre) (c .before .before .before .before .before .before .before .before .before .before .before .before .before .before .before .before .before .before .before .before .before .loop .inv) .2
+
+same-length-4 : tie.Need-same-length-4 Inv-loop μ-loop
+same-length-4 c = c .before .before .before .before .before .before .before .before .before .before .before .before .before .walk .kept .1 .1 .1 .1 .1 .1 .1 .1 .0 ∙ run-lengths (c .before .before .before .before .before .before .before .before .before .before .before .before .before .before .before .before .before .before .before .before .before .before .before .before .before .before .before .before .before .before .pre) (c .before .before .before .before .before .before .before .before .before .before .before .before .before .before .before .before .before .before .before .before .before .loop .inv) .3
+
+same-length-5 : tie.Need-same-length-5 Inv-loop μ-loop
+same-length-5 c = c .before .before .before .before .before .before .before .before .before .before .before .before .before .walk .kept .1 .1 .1 .1 .1 .1 .1 .1 .1 .0 ∙ run-lengths (c .before .before .before .before .before .before .before .before .before .before .before .before .before .before .before .before .before .before .before .before .before .before .before .before .before .before .before .before .before .before .pre) (c .before .before .before .before .before .before .before .before .before .before .before .before .before .before .before .before .before .before .before .before .before .loop .inv) .4
+
+returns : tie.Need-returns Inv-loop μ-loop
+returns c =
+    run-stops (c .before .before .before .before .before .before .before .before .before .before .before .before .before .before .before .before .before .before .before .before .before .loop .rank) (c .before .before .before .before .before .before .before .before .before .before .before .before .before .before .before .before .before .before .before .before .before .before .before .before .before .before .before .before .before .before .pre) (c .before .before .before .before .before .before .before .before .before .before .before .before .before .before .before .before .before .before .before .before .before .loop .inv) (c .before .before .before .before .before .before .before .before .before .before .before .before .before .before .before .before .before .before .before .before .loop-test .taken) (c .before .before .before .before .before .before .before .before .before .before .before .before .before .walk .result) _ _ _ _ _
+    (c .before .before .before .before .before .before .before .before .before .before .before .before .before .walk .ensures .0) (c .before .before .before .before .before .before .before .before .before .before .before .before .before .walk .ensures .1) (c .before .before .verdict-of .result) _ (c .before .before .verdict-of .ensures)
+    (c .enum-told2 .given .1)
+
+add-rank : tie.Need-add-rank Inv-loop μ-loop
+add-rank c = omega arith
+
+loop-less : tie.Need-loop-less Inv-loop μ-loop
+loop-less c = omega arith
+
+loop-again : tie.Need-loop-again Inv-loop μ-loop
+loop-again c =
+    run-next (c .before .before .before .before .before .before .before .before .before .before .before .before .before .before .before .before .before .before .before .before .before .loop .rank) (c .before .before .before .before .before .before .before .before .before .before .before .before .before .before .before .before .before .before .before .before .before .before .before .before .before .before .before .before .before .before .pre) (c .before .before .before .before .before .before .before .before .before .before .before .before .before .before .before .before .before .before .before .before .before .loop .inv) (c .before .before .before .before .before .before .before .before .before .before .before .before .before .before .before .before .before .before .before .before .loop-test .taken) (c .before .before .before .before .before .before .before .before .before .before .before .before .before .walk .result) _ _ _ _ _
+    (c .before .before .before .before .before .before .before .before .before .before .before .before .before .walk .ensures .0) (c .before .before .before .before .before .before .before .before .before .before .before .before .before .walk .ensures .1) (sym (c .before .before .verdict-of .ensures) ∙ c .enum-told .given .1)
+
+same-length-6 : tie.Need-same-length-6 Inv-loop μ-loop
+same-length-6 c = run-lengths (c .before .before .before .before .before .before .before .before .before .before .pre) (c .before .loop .inv) .0
+
+same-length-7 : tie.Need-same-length-7 Inv-loop μ-loop
+same-length-7 c = run-lengths (c .before .before .before .before .before .before .before .before .before .before .pre) (c .before .loop .inv) .1
+
+same-length-8 : tie.Need-same-length-8 Inv-loop μ-loop
+same-length-8 c = run-lengths (c .before .before .before .before .before .before .before .before .before .before .pre) (c .before .loop .inv) .2
+
+same-length-9 : tie.Need-same-length-9 Inv-loop μ-loop
+same-length-9 c = run-lengths (c .before .before .before .before .before .before .before .before .before .before .pre) (c .before .loop .inv) .3
+
+same-length-10 : tie.Need-same-length-10 Inv-loop μ-loop
+same-length-10 c = run-lengths (c .before .before .before .before .before .before .before .before .before .before .pre) (c .before .loop .inv) .4
+
+returns-2 : tie.Need-returns-2 Inv-loop μ-loop
+returns-2 c = run-ends (c .loop-test .left) (c .before .loop .inv)
+
+pub run-spec : {M : Type 1} → statement M
+run-spec =
+    tie.close
+    (tie.spec
+    Inv-loop
+    μ-loop
+    loop-holds
+    mul-hub
+    shared-slice-read-hub
+    cast-hub
+    walk-requires
+    verdict-of-requires
+    enum-told
+    enum-told-2
+    same-length
+    same-length-2
+    same-length-3
+    same-length-4
+    same-length-5
+    returns
+    add-rank
+    loop-less
+    loop-again
+    same-length-6
+    same-length-7
+    same-length-8
+    same-length-9
+    same-length-10
+    returns-2)

@@ -1,0 +1,32 @@
+-- Each case gives its own verdict.
+use Prim.Native.Nat.{ℕ}
+use mathlib.Core.Path.{_≡_, refl, sym, ap}
+use borrow.Author.Needs.{needs}
+use Rattle.build.specs.Settle.{verdictOf}
+use Rattle.build.specs.declared.settle.Walked.{Walked}
+use Rattle.build.proofs.run.verdict_of.Statement.{statement}
+use Rattle.build.proofs.run.verdict_of.Tie as tie
+
+enum-told : tie.Need-enum-told
+enum-told c = search needs
+
+returns : tie.Need-returns
+unfolding verdictOf
+returns c = sym (ap (λ (x : Walked). verdictOf x (c .before .before .args .rank)) (c .enum-told .given .1))
+
+enum-told-2 : tie.Need-enum-told-2
+enum-told-2 c = search needs
+
+returns-2 : tie.Need-returns-2
+unfolding verdictOf
+returns-2 c = sym (ap (λ (x : Walked). verdictOf x (c .before .before .args .rank)) (c .enum-told2 .given .1))
+
+enum-told-3 : tie.Need-enum-told-3
+enum-told-3 c = search needs
+
+returns-3 : tie.Need-returns-3
+unfolding verdictOf
+returns-3 c = sym (ap (λ (x : Walked). verdictOf x (c .before .before .args .rank)) (c .enum-told3 .given .1))
+
+pub verdict-of-spec : {M : Type 1} → statement M
+verdict-of-spec = tie.close (tie.spec enum-told enum-told-2 enum-told-3 returns returns-2 returns-3)

@@ -1,0 +1,109 @@
+// The walks of the first k hubs in rank order, over cleared rooms, up to the first that is refused.
+use crate::settle::Walked;
+use crate::walk::walk;
+use refusal::Refusal;
+use refusal::Verdict;
+use rows::entry::Entry;
+ghost use mathlib.Core.Path.{_≡_};
+ghost use lib.ListN.{length, replicate};
+ghost use Rattle.build.specs.Build.{RunIn, RunOut};
+ghost use Rattle.build.specs.Settle.{verdictOf};
+
+// What a walk of this rank makes of the build: ROOM at the rank, FAR at 0.
+pub fn verdict_of(walked: Walked, rank: usize) -> Verdict
+    ensures { λ r. ⌜ r ≡ verdictOf walked rank ⌝ }
+{
+    match walked {
+        Walked::Made => Verdict::Fine,
+        Walked::Full => Verdict::Refused(Refusal {
+            number: refusal::ROOM,
+            place: rank,
+        }),
+        Walked::Far => Verdict::Refused(Refusal {
+            number: refusal::FAR,
+            place: 0,
+        }),
+    }
+}
+
+// The walks of the ranks below k. Rows and counts are then the rule's at the rank where it stopped.
+pub fn run(
+    w: usize,
+    k: usize,
+    starts: &[u32],
+    places: &[u32],
+    order: &[u32],
+    labels: &mut [Entry],
+    counts: &mut [u32],
+    met: &mut [u32],
+    queue: &mut [u32],
+    noted: &mut [u32],
+) -> Verdict
+    requires { ⌜
+        RunIn (length (now counts)) w k (now starts) (now places) (now order) (now labels) (now counts) (now met) (now queue)
+        (now noted)
+        ⌝ }
+    ensures { λ r. ⌜
+        RunOut (length (now (counts .entry))) w k (now (starts .entry)) (now (places .entry)) (now (order .entry)) r
+        (now (labels .exit)) (now (counts .exit)) (now (met .exit)) (now (queue .exit))
+        ⌝ }
+{
+    let mut rank = 0;
+    while rank < k {
+        let hub = order[rank] as usize;
+        let walked = walk(
+            w,
+            rank,
+            starts,
+            places,
+            labels,
+            counts,
+            hub,
+            met,
+            queue,
+            noted,
+        );
+        let verdict = verdict_of(walked, rank);
+        let Verdict::Fine = verdict else {
+            return verdict;
+        };
+        rank += 1;
+    }
+    Verdict::Fine
+}
+
+// The same, with the notes of the hub's row that the walks share: 65,536 at every rank.
+pub fn walks(
+    w: usize,
+    k: usize,
+    starts: &[u32],
+    places: &[u32],
+    order: &[u32],
+    labels: &mut [Entry],
+    counts: &mut [u32],
+    met: &mut [u32],
+    queue: &mut [u32],
+) -> Verdict
+    requires { ⌜
+        RunIn (length (now counts)) w k (now starts) (now places) (now order) (now labels) (now counts) (now met) (now queue)
+        (replicate 4096 65536)
+        ⌝ }
+    ensures { λ r. ⌜
+        RunOut (length (now (counts .entry))) w k (now (starts .entry)) (now (places .entry)) (now (order .entry)) r
+        (now (labels .exit)) (now (counts .exit)) (now (met .exit)) (now (queue .exit))
+        ⌝ }
+{
+    let mut noted = [65536u32; 4096];
+    run(
+        w,
+        k,
+        starts,
+        places,
+        order,
+        labels,
+        counts,
+        met,
+        queue,
+        &mut noted,
+    )
+}

@@ -1,0 +1,103 @@
+// The build's tests before any walk, 1 to 5: its own SIZE over all arguments, its own LENGTH over all rooms, and then the
+// tests of the links and of the order.
+use refusal::Refusal;
+use refusal::Verdict;
+ghost use mathlib.Core.Path.{_≡_};
+ghost use Prim.Native.Nat.{_≤_};
+ghost use lib.ListN.{length};
+ghost use Rattle.build.specs.Build.{buildSizes, buildRooms, buildTests};
+
+// n, W, k and the number of neighbour places are in range.
+pub fn sizes_fit(n: usize, w: usize, k: usize, places: usize) -> bool
+    ensures { λ r. ⌜ r ≡ buildSizes n w k places ⌝ }
+{
+    if n < 1 {
+        return false;
+    }
+    if 4096 < n {
+        return false;
+    }
+    if w < 1 {
+        return false;
+    }
+    if 256 < w {
+        return false;
+    }
+    if n < k {
+        return false;
+    }
+    places <= 65536
+}
+
+// Every room has its exact length.
+pub fn rooms_fit(
+    n: usize,
+    w: usize,
+    starts: usize,
+    order: usize,
+    labels: usize,
+    counts: usize,
+    met: usize,
+    queue: usize,
+) -> bool
+    requires { ⌜ (n ≤ 4096) × (w ≤ 256) ⌝ }
+    ensures { λ r. ⌜ r ≡ buildRooms n w starts order labels counts met queue ⌝ }
+{
+    let starts_long = n + 1;
+    if starts != starts_long {
+        return false;
+    }
+    if order != n {
+        return false;
+    }
+    let labels_long = n * w;
+    if labels != labels_long {
+        return false;
+    }
+    if counts != n {
+        return false;
+    }
+    if met != n {
+        return false;
+    }
+    queue == n
+}
+
+// Tests 1 to 5; the four rooms that the build fills by their lengths.
+pub fn tests(
+    n: usize,
+    w: usize,
+    k: usize,
+    starts: &[u32],
+    places: &[u32],
+    order: &[u32],
+    labels: usize,
+    counts: usize,
+    met: usize,
+    queue: usize,
+) -> Verdict
+    ensures { λ r. ⌜
+        r
+        ≡ buildTests n w k (now (starts .entry)) (now (places .entry)) (now (order .entry)) labels counts met queue
+        ⌝ }
+{
+    let sizes = sizes_fit(n, w, k, places.len());
+    if !sizes {
+        return Verdict::Refused(Refusal {
+            number: refusal::SIZE,
+            place: 0,
+        });
+    }
+    let lengths = rooms_fit(n, w, starts.len(), order.len(), labels, counts, met, queue);
+    if !lengths {
+        return Verdict::Refused(Refusal {
+            number: refusal::LENGTH,
+            place: 0,
+        });
+    }
+    let sound = links::check_links(n, starts, places);
+    let Verdict::Fine = sound else {
+        return sound;
+    };
+    links::check_order(n, order)
+}

@@ -1,0 +1,171 @@
+-- The laws of the way from a file's bytes to its text: what each test that is passed, or refuses, makes of it.
+use Prim.Native.Nat.{ℕ, _*_, _≤_, _<_}
+use native.Mathlib.Nat.{zero-add}
+use native.Mathlib.Omega.{arith}
+use mathlib.Core.Path.{_≡_, refl, sym, ap, subst, _∙_}
+use mathlib.Core.Bool.{Bool, true, false, not}
+use mathlib.Core.List.{List, _++_}
+use lib.ListN.{length, take}
+use lib.Seq.{length-take-le}
+use lib.Dec.{leb, eqb}
+use borrow.Author.Tests.{le-leb, lt-leb, eqb-true}
+use Rattle.basics.specs.Places.{first, sum}
+use Rattle.basics.proofs.Laws.{first-before, of-not-false}
+use Rattle.refusal.specs.Numbers.{SIZE, ROW}
+use Rattle.refusal.specs.Tests.{test, _then_, refusal}
+use Rattle.refusal.specs.declared.Refusal.{Refusal}
+use Rattle.refusal.specs.declared.Verdict.{Verdict}
+use Rattle.refusal.proofs.Laws.{vcase, then-fine, test-held, test-fine, test-refused, after-fine, after-refused}
+use Rattle.rows.specs.declared.spread.SpreadAnswer.{SpreadAnswer}
+use Rattle.rows.specs.Rooms.{Rooms, soundRow, roomTests, rowsTest, checkRows}
+use Rattle.rows.specs.Spread.{spreadBy, spreadOf, farthest}
+use Rattle.rows.proofs.RoomLaws.{fine-rooms}
+use Rattle.file.specs.declared.Opened.{Opened}
+use Rattle.file.specs.Reader.{framesOf, stopOf, headerTest, headerOf, opened, readTest, readOf, filledIn, outcome, Outcome}
+use Rattle.listing.specs.Lines.{WIDTH, MOST, Shown, headText, linesText, refusedText}
+use Rattle.listing.specs.Listing.{indexText, fileText, readText, listingTest, listingOf, Cut}
+
+-- ---- the index
+
+-- an answered spread: every row is sound, and the rooms can be listed
+fine-by : (v : Verdict) (joins spread : ℕ) → spreadBy v joins ≡ SpreadAnswer.Spread spread → v ≡ Verdict.Fine
+unfolding spreadBy
+fine-by Verdict.Fine joins spread e = refl
+fine-by (Verdict.Refused r) joins spread e = let z : _≡_ {A = ℕ} 0 1 = cc in absurd (omega arith)
+
+pub shown-by : (n spread : ℕ) {order labels counts : List ℕ} → spreadOf n WIDTH labels counts ≡ SpreadAnswer.Spread spread
+    → Cut order labels counts → Shown order labels counts
+unfolding spreadOf checkRows rowsTest
+shown-by n spread {order} {labels} {counts} e cut =
+    let fine : checkRows n n WIDTH labels counts ≡ Verdict.Fine = fine-by (checkRows n n WIDTH labels counts) _ spread e in
+    let both : (roomTests n WIDTH labels counts ≡ Verdict.Fine) × (rowsTest n n WIDTH labels counts ≡ Verdict.Fine) =
+    then-fine _ _ fine in
+    let rooms : Rooms n WIDTH labels counts = fine-rooms n WIDTH labels counts (both .0) in
+    let all : first (λ u. not (soundRow n n WIDTH labels counts u)) 0 n ≡ n = eqb-true _ _ (test-held _ _ _ (both .1)) in
+    record {
+      frames = cut .frames;
+      ordered = cut .ordered;
+      places = cut .places;
+      sound =
+          λ v inside.
+          subst (λ (m : ℕ). soundRow m m WIDTH labels counts v ≡ true) (sym (rooms .each))
+          (of-not-false _
+          (first-before (λ u. not (soundRow n n WIDTH labels counts u)) 0 n v (omega arith) (omega (arith, all, rooms .each))));
+    }
+
+pub text-shown : {a : SpreadAnswer} {spread : ℕ} (n k : ℕ) (order labels counts : List ℕ) → a ≡ SpreadAnswer.Spread spread
+    → headText n k (sum counts) spread ++ linesText WIDTH order labels counts 0 (length counts)
+    ≡ indexText a n k order labels counts
+unfolding indexText
+text-shown n k order labels counts e = sym (ap (λ (a : SpreadAnswer). indexText a n k order labels counts) e)
+
+pub text-refused : {a : SpreadAnswer} {r : Refusal} (n k : ℕ) (order labels counts : List ℕ) → a ≡ SpreadAnswer.Refused r
+    → refusedText ROW ≡ indexText a n k order labels counts
+unfolding indexText
+text-refused n k order labels counts e = sym (ap (λ (a : SpreadAnswer). indexText a n k order labels counts) e)
+
+-- ---- the reader's answer
+
+-- the text by the reader's answer and what it left in the rooms
+unfoldable openedText : Opened → List ℕ → List ℕ → List ℕ → List ℕ
+openedText (Opened.Index n k) order labels counts =
+    indexText (spreadOf n WIDTH labels counts) n k order labels counts
+openedText (Opened.Refused r) order labels counts = refusedText (r .number)
+
+filled-text : (v : Verdict) (s order labels counts : List ℕ)
+    → let o : Outcome = filledIn v s WIDTH order labels counts in
+    openedText (o .answer) (o .order) (o .labels) (o .counts) ≡ readText v s
+unfolding filledIn openedText readText fileText
+filled-text Verdict.Fine s order labels counts = refl
+filled-text (Verdict.Refused r) s order labels counts = refl
+
+module _ (s order labels counts : List ℕ) {order' labels' counts' : List ℕ} {a : Opened}
+    (e : outcome a order' labels' counts' ≡ readOf s WIDTH order labels counts) where
+  read-text : openedText a order' labels' counts'
+      ≡ readText (readTest s WIDTH (length order) (length labels) (length counts)) s
+  unfolding readOf
+  read-text =
+      ap (λ (o : Outcome). openedText (o .answer) (o .order) (o .labels) (o .counts)) e
+      ∙ filled-text (readTest s WIDTH (length order) (length labels) (length counts)) s order labels counts
+
+  pub read-index : {n k : ℕ} → a ≡ Opened.Index n k
+      → indexText (spreadOf n WIDTH labels' counts') n k order' labels' counts'
+      ≡ readText (readTest s WIDTH (length order) (length labels) (length counts)) s
+  unfolding openedText
+  read-index f = sym (ap (λ (b : Opened). openedText b order' labels' counts') f) ∙ read-text
+
+  pub read-refused : {r : Refusal} → a ≡ Opened.Refused r
+      → refusedText (r .number) ≡ readText (readTest s WIDTH (length order) (length labels) (length counts)) s
+  unfolding openedText
+  read-refused f = sym (ap (λ (b : Opened). openedText b order' labels' counts') f) ∙ read-text
+
+-- ---- the header
+
+header-fine : (v : Verdict) (m j : ℕ) {n k : ℕ} → opened v m j ≡ Opened.Index n k → (v ≡ Verdict.Fine) × (m ≡ n)
+unfolding opened
+header-fine Verdict.Fine m j e = (refl, cc)
+header-fine (Verdict.Refused r) m j e = let z : _≡_ {A = ℕ} 0 1 = cc in absurd (omega arith)
+
+header-not : (v : Verdict) (m j : ℕ) {r : Refusal} → opened v m j ≡ Opened.Refused r → v ≡ Verdict.Refused r
+unfolding opened
+header-not Verdict.Fine m j e = let z : _≡_ {A = ℕ} 0 1 = cc in absurd (omega arith)
+header-not (Verdict.Refused r) m j e = cc
+
+-- a refused header
+pub header-refused : (s : List ℕ) {a : Opened} {r : Refusal} → a ≡ headerOf s → a ≡ Opened.Refused r
+    → refusedText (r .number) ≡ listingOf s
+unfolding headerOf listingTest listingOf readText
+header-refused s e f =
+    sym (ap (λ (v : Verdict). readText v s) (after-refused _ (header-not (headerTest s) _ _ (sym e ∙ f))))
+
+module _ (s : List ℕ) {a : Opened} {n k : ℕ} (e : a ≡ headerOf s) (f : a ≡ Opened.Index n k) where
+  fine : (headerTest s ≡ Verdict.Fine) × (framesOf s ≡ n)
+  unfolding headerOf
+  fine = header-fine (headerTest s) (framesOf s) (stopOf s) (sym e ∙ f)
+
+  -- more than 256 frames
+  pub over-frames : MOST < n → refusedText SIZE ≡ listingOf s
+  unfolding listingTest listingOf readText
+  over-frames more =
+      sym
+      (ap (λ (v : Verdict). readText v s)
+      (after-fine _ (fine .0)
+      ∙ after-refused _ (test-refused SIZE 0 (lt-leb (framesOf s) MOST (omega (arith, fine .1))))))
+
+  -- at most 256: the reader decides
+  pub within-frames : n ≤ MOST → readText (readTest s WIDTH n (n * WIDTH) n) s ≡ listingOf s
+  unfolding listingTest listingOf
+  within-frames most =
+      subst (λ (m : ℕ). readText (readTest s WIDTH m (m * WIDTH) m) s ≡ readText (listingTest s) s) (fine .1)
+      (sym
+      (ap (λ (v : Verdict). readText v s)
+      (after-fine _ (fine .0)
+      ∙ after-fine _ (test-fine SIZE 0 (le-leb (framesOf s) MOST (omega (arith, fine .1)))))))
+
+-- ---- rooms cut to n frames
+
+module _ (n : ℕ) (order labels counts : List ℕ) (most : n ≤ MOST) (o : length order ≡ MOST) (l : length labels ≡ MOST * WIDTH)
+    (t : length counts ≡ MOST) where
+  cut-order : length (take n order) ≡ n
+  cut-order = length-take-le n order (omega arith)
+
+  cut-labels : length (take (n * WIDTH) labels) ≡ n * WIDTH
+  cut-labels = length-take-le (n * WIDTH) labels (omega arith)
+
+  cut-counts : length (take n counts) ≡ n
+  cut-counts = length-take-le n counts (omega arith)
+
+  pub cut-rooms : Cut (take n order) (take (n * WIDTH) labels) (take n counts)
+  cut-rooms =
+      record {
+        frames = omega (arith, cut-counts);
+        ordered = cut-order ∙ sym cut-counts;
+        places = cut-labels ∙ ap (λ (k : ℕ). k * WIDTH) (sym cut-counts);
+      }
+
+  pub cut-text : (s : List ℕ)
+      → readText
+      (readTest s WIDTH (length (take n order)) (length (take (n * WIDTH) labels)) (length (take n counts)))
+      s
+      ≡ readText (readTest s WIDTH n (n * WIDTH) n) s
+  cut-text s = rw (cut-order, cut-labels, cut-counts) refl

@@ -1,0 +1,74 @@
+-- The laws of text put behind what a room holds, and of a number's decimal digits.
+use Prim.Native.Nat.{ℕ, zero, suc, _+_, _-_, _^_, _≤_, _<_}
+use native.Mathlib.Nat.{pow-le-pow-right, add-zero}
+use native.Mathlib.Numerals.{add-one}
+use native.Mathlib.Omega.{arith}
+use mathlib.Core.Path.{_≡_, refl, sym, ap, subst, _∙_}
+use mathlib.Core.Bool.{true, false}
+use mathlib.Core.List.{List, [], _∷_, _++_, append-assoc, append-nil}
+use lib.ListN.{length, getD, take, set, length-append, length-set}
+use lib.Seq.{take-suc, take-suc-set}
+use lib.Dec.{ltb}
+use borrow.Author.Tests.{lt-ltb, le-ltb}
+use Rattle.basics.specs.Places.{first}
+use Rattle.basics.proofs.Laws.{first-is, lt-or-ge}
+use Rattle.io.specs.Digits.{digits, Fewest}
+use Rattle.listing.specs.Text.{places, decimal, Put}
+
+-- ---- text in a room
+
+-- nothing put
+pub put-none : (room : List ℕ) (at : ℕ) → Put room at [] room at
+put-none room at = record { long = refl; ends = sym (add-zero at); holds = sym (append-nil (take at room)) }
+
+-- one byte put
+pub put-byte : (room : List ℕ) (at b : ℕ) → at < length room → Put room at (b ∷ []) (set room at b) (at + 1)
+put-byte room at b h =
+    record { long = length-set room at b; ends = refl; holds = rw add-one (take-suc-set room at b h) }
+
+-- text, and more text behind it
+pub put-more : {room mid last s t : List ℕ} {at next end : ℕ} → Put room at s mid next → Put mid next t last end
+    → Put room at (s ++ t) last end
+put-more {room} {mid} {last} {s} {t} {at} {next} {end} p q =
+    record {
+      long = q .long ∙ p .long;
+      ends = q .ends ∙ (ap (λ (k : ℕ). k + length t) (p .ends) ∙ omega (arith, length-append s t));
+      holds = q .holds ∙ (ap (λ (l : List ℕ). l ++ t) (p .holds) ∙ append-assoc (take at room) s t);
+    }
+
+-- one byte more of a text
+pub put-next : {room mid : List ℕ} {at : ℕ} (text : List ℕ) (i : ℕ) → i < length text → at + i < length mid
+    → Put room at (take i text) mid (at + i)
+    → Put room at (take (i + 1) text) (set mid (at + i) (getD text i 0)) (at + (i + 1))
+put-next {room} {mid} {at} text i inside fits p =
+    rw (add-one, take-suc text i 0)
+    (subst (λ (k : ℕ). Put room at (take i text ++ (getD text i 0 ∷ [])) (set mid (at + i) (getD text i 0)) k) (omega arith)
+    (put-more p (put-byte mid (at + i) (getD text i 0) fits)))
+
+-- ---- a number
+
+-- a number of 64 bits has at most twenty digits
+pub few-places : (x k : ℕ) → x < 18446744073709551616 → Fewest 10 1 x k → k ≤ 20
+few-places x k small few =
+    lt-or-ge 20 k
+    (λ more.
+    let high : 10 ^ (k - 1) ≤ x = few .2 (omega arith) in
+    let less : 10 ^ 20 ≤ 10 ^ (k - 1) = pow-le-pow-right {n = 10} (omega arith) {i = 20} {j = k - 1} (omega arith) in
+    absurd (omega arith))
+    (λ most. most)
+
+-- the fewest digits that hold a number are as many as it has
+pub places-is : (x k : ℕ) → k ≤ 20 → Fewest 10 1 x k → places x ≡ k
+unfolding places
+places-is x k most few =
+    first-is (λ j. ltb x (10 ^ j)) 1 20 k (few .0) (omega arith) (lt-ltb x (10 ^ k) (few .1))
+    (λ j low below.
+    le-ltb x (10 ^ j)
+    (let high : 10 ^ (k - 1) ≤ x = few .2 (omega arith) in
+    let less : 10 ^ j ≤ 10 ^ (k - 1) = pow-le-pow-right (omega arith) (omega arith) in
+    omega arith))
+
+-- those digits are the number in decimal
+pub decimal-is : (x k : ℕ) → k ≤ 20 → Fewest 10 1 x k → digits 10 k x ≡ decimal x
+unfolding decimal
+decimal-is x k most few = ap (λ (j : ℕ). digits 10 j x) (sym (places-is x k most few))

@@ -1,0 +1,96 @@
+-- The reader's outcome decides: a refusal is told by its number, an index is shown from the rooms that the reader filled.
+use Prim.Native.Nat.{ℕ}
+use native.Mathlib.Omega.{arith}
+use mathlib.Core.Path.{sym, ap, subst, _∙_}
+use mathlib.Core.List.{List}
+use borrow.Author.Needs.{needs}
+use Rattle.listing.specs.Text.{Put}
+use Rattle.listing.specs.Lines.{refusedText}
+use Rattle.listing.specs.Listing.{numberOf}
+use Rattle.listing.proofs.IndexLaws.{read-index, read-refused}
+use Rattle.listing.proofs.index.read.Statement.{statement}
+use Rattle.listing.proofs.index.read.Tie as tie
+
+read-requires : tie.Need-read-requires
+read-requires c κs = tt
+
+enum-known-opened : tie.Need-enum-known-opened
+enum-known-opened c = search needs
+
+enum-told : tie.Need-enum-told
+enum-told c = search needs
+
+number-of-requires : tie.Need-number-of-requires
+number-of-requires c κs = search needs
+
+refused-requires : tie.Need-refused-requires
+refused-requires c κs = search needs
+
+same-length : tie.Need-same-length
+same-length c = search needs
+
+same-length-2 : tie.Need-same-length-2
+same-length-2 c = search needs
+
+same-length-3 : tie.Need-same-length-3
+same-length-3 c = search needs
+
+same-length-4 : tie.Need-same-length-4
+same-length-4 c = search needs
+
+returns : tie.Need-returns
+unfolding numberOf
+returns c =
+    let start : _ = c .before .before .before .before .before .before .before .before .before .before .before .before .before .before .before .before .before .before .before .before .before .before in
+    let answer : _ = c .before .before .before .before .before .enum-told .given .1 in (
+      subst (λ (t : List ℕ). Put (start .args .out .now) 0 t (c .before .before .refused .last .0) (c .before .before .refused .result))
+          (ap refusedText (c .before .before .before .number-of .ensures ∙ ap numberOf answer)
+          ∙ read-refused (start .args .bytes .now) (start .args .order .now) (start .args .labels .now) (start .args .counts .now) (c .before .before .before .before .before .before .before .before .before .before .before .before .before .read .ensures .0) answer)
+          (c .before .before .refused .ensures .0),
+      omega (arith, c .before .before .refused .ensures .1),
+    )
+
+show-requires : tie.Need-show-requires
+show-requires c κs = search needs
+
+same-length-5 : tie.Need-same-length-5
+same-length-5 c = search needs
+
+same-length-6 : tie.Need-same-length-6
+same-length-6 c = search needs
+
+same-length-7 : tie.Need-same-length-7
+same-length-7 c = search needs
+
+same-length-8 : tie.Need-same-length-8
+same-length-8 c = search needs
+
+returns-2 : tie.Need-returns-2
+returns-2 c =
+    let start : _ = c .before .before .before .before .before .before .before .before .before .before .before .before .before .before .before .before .before .before .before .before .before .before .before .before .before in (
+      subst (λ (t : List ℕ). Put (start .args .out .now) 0 t (c .before .before .show .last .1 .1 .1 .1 .1 .0) (c .before .before .show .result))
+          (read-index (start .args .bytes .now) (start .args .order .now) (start .args .labels .now) (start .args .counts .now) (c .before .before .before .before .before .before .before .before .before .before .before .before .before .before .before .before .read .ensures .0) (c .before .before .before .before .before .before .before .before .opened .given .1))
+          (c .before .before .show .ensures .0),
+      c .before .before .show .ensures .1,
+    )
+
+pub read-spec : {M : Type 1} → statement M
+read-spec =
+    tie.close
+    (tie.spec
+    read-requires
+    enum-known-opened
+    enum-told
+    number-of-requires
+    refused-requires
+    same-length
+    same-length-2
+    same-length-3
+    same-length-4
+    returns
+    show-requires
+    same-length-5
+    same-length-6
+    same-length-7
+    same-length-8
+    returns-2)

@@ -1,0 +1,79 @@
+-- The lines of the listing, as the paper prints them. A list of numbers is a text of bytes.
+use Prim.Native.Nat.{ℕ, zero, suc, _+_, _*_, _≤_, _<_}
+use mathlib.Core.Path.{_≡_}
+use mathlib.Core.Bool.{true}
+use mathlib.Core.List.{List, [], _∷_, _++_}
+use lib.ListN.{length, getD}
+use Rattle.rows.specs.Entry.{rankOf, joinsOf}
+use Rattle.rows.specs.Rooms.{rowAt, soundRow}
+use Rattle.listing.specs.Text.{decimal}
+
+-- W = 32
+abbrev pub WIDTH : ℕ
+WIDTH = 32
+
+-- at most 256 frames
+abbrev pub MOST : ℕ
+MOST = 256
+
+-- rooms that can be listed: their lengths go by the number of frames, and each row is sound for the bound n
+pub record Shown (order labels counts : List ℕ) : Type 0 where
+  pub frames : length counts ≤ MOST
+  pub ordered : length order ≡ length counts
+  pub places : length labels ≡ length counts * WIDTH
+  pub sound : (v : ℕ) → v < length counts → soundRow (length counts) (length counts) WIDTH labels counts v ≡ true
+
+abbrev pub space : ℕ
+space = 32
+
+abbrev pub colon : ℕ
+colon = 58
+
+abbrev pub newline : ℕ
+newline = 10
+
+-- hub frame:joins, a single space before it; the frame of a rank is the order's at that place
+unfoldable pub entryText : List ℕ → ℕ → List ℕ
+entryText order e = (space ∷ decimal (getD order (rankOf e) 0)) ++ (colon ∷ decimal (joinsOf e))
+
+-- the entries of a row, in rank order
+unfoldable pub entriesText : List ℕ → List ℕ → List ℕ
+entriesText order [] = []
+entriesText order (e ∷ es) = entryText order e ++ entriesText order es
+
+-- per frame its number and its entries; the number alone for an empty row
+unfoldable pub lineText : List ℕ → ℕ → List ℕ → List ℕ
+lineText order v row = decimal v ++ (entriesText order row ++ (newline ∷ []))
+
+-- the lines of `left` frames from frame v on
+unfoldable pub linesText : ℕ → List ℕ → List ℕ → List ℕ → ℕ → ℕ → List ℕ
+linesText w order labels counts v zero = []
+linesText w order labels counts v (suc left) =
+    lineText order v (rowAt w labels counts v) ++ linesText w order labels counts (suc v) left
+
+-- 'frames ', ' hubs ', ' entries ', ' spread ' and 'refused '
+abbrev pub framesWord : List ℕ
+framesWord = 102 ∷ 114 ∷ 97 ∷ 109 ∷ 101 ∷ 115 ∷ 32 ∷ []
+
+abbrev pub hubsWord : List ℕ
+hubsWord = 32 ∷ 104 ∷ 117 ∷ 98 ∷ 115 ∷ 32 ∷ []
+
+abbrev pub entriesWord : List ℕ
+entriesWord = 32 ∷ 101 ∷ 110 ∷ 116 ∷ 114 ∷ 105 ∷ 101 ∷ 115 ∷ 32 ∷ []
+
+abbrev pub spreadWord : List ℕ
+spreadWord = 32 ∷ 115 ∷ 112 ∷ 114 ∷ 101 ∷ 97 ∷ 100 ∷ 32 ∷ []
+
+abbrev pub refusedWord : List ℕ
+refusedWord = 114 ∷ 101 ∷ 102 ∷ 117 ∷ 115 ∷ 101 ∷ 100 ∷ 32 ∷ []
+
+-- first line: n, k, sum of counts, spread
+unfoldable pub headText : ℕ → ℕ → ℕ → ℕ → List ℕ
+headText n k entries spread =
+    (framesWord ++ decimal n)
+    ++ ((hubsWord ++ decimal k)
+    ++ ((entriesWord ++ decimal entries) ++ ((spreadWord ++ decimal spread) ++ (newline ∷ []))))
+
+-- 'refused' with the number
+unfoldable pub refusedText : ℕ → List ℕ
+refusedText number = (refusedWord ++ decimal number) ++ (newline ∷ [])

@@ -1,0 +1,60 @@
+-- What the listing program prints for an input: the tests in the paper's order, then the index line by line. `s` is the
+-- byte string.
+use Prim.Native.Nat.{ℕ, _*_, _≤_}
+use mathlib.Core.Path.{_≡_}
+use mathlib.Core.List.{List, _++_}
+use lib.ListN.{length}
+use lib.Dec.{leb}
+use Rattle.basics.specs.Places.{sum}
+use Rattle.refusal.specs.Numbers.{SIZE, ROW}
+use Rattle.refusal.specs.Tests.{test, _then_}
+use Rattle.refusal.specs.declared.Verdict.{Verdict}
+use Rattle.rows.specs.declared.spread.SpreadAnswer.{SpreadAnswer}
+use Rattle.rows.specs.Spread.{spreadOf}
+use Rattle.file.specs.declared.Opened.{Opened}
+use Rattle.file.specs.Reader.{framesOf, stopOf, headerTest, readTest, orderRead, labelsRead, countsRead}
+use Rattle.listing.specs.Lines.{WIDTH, MOST, headText, linesText, refusedText}
+
+-- the number of a refusal, 0 of an index
+unfoldable pub numberOf : Opened → ℕ
+numberOf (Opened.Index n k) = 0
+numberOf (Opened.Refused r) = r .number
+
+-- first line, then a line per frame
+unfoldable pub indexText : SpreadAnswer → ℕ → ℕ → List ℕ → List ℕ → List ℕ → List ℕ
+indexText (SpreadAnswer.Spread spread) n k order labels counts =
+    headText n k (sum counts) spread ++ linesText WIDTH order labels counts 0 (length counts)
+indexText (SpreadAnswer.Refused r) n k order labels counts = refusedText ROW
+
+-- the index of n frames that a file gives
+unfoldable pub fileText : List ℕ → ℕ → List ℕ
+fileText s n =
+    indexText
+    (spreadOf n WIDTH (labelsRead s n WIDTH) (countsRead s n))
+    n
+    (stopOf s)
+    (orderRead s n)
+    (labelsRead s n WIDTH)
+    (countsRead s n)
+
+-- unless the reader hands over an index, `refused` with the number
+unfoldable pub readText : Verdict → List ℕ → List ℕ
+readText Verdict.Fine s = fileText s (framesOf s)
+readText (Verdict.Refused r) s = refusedText (r .number)
+
+-- the header; more than 256 frames: `refused 1`, tested after the header; then the reader, with W = 32
+unfoldable pub listingTest : List ℕ → Verdict
+listingTest s =
+    headerTest s
+    then test (leb (framesOf s) MOST) SIZE 0
+    then readTest s WIDTH (framesOf s) (framesOf s * WIDTH) (framesOf s)
+
+-- the whole text
+unfoldable pub listingOf : List ℕ → List ℕ
+listingOf s = readText (listingTest s) s
+
+-- rooms cut to one number of frames, at most 256
+pub record Cut (order labels counts : List ℕ) : Type 0 where
+  pub frames : length counts ≤ MOST
+  pub ordered : length order ≡ length counts
+  pub places : length labels ≡ length counts * WIDTH
