@@ -1,35 +1,34 @@
 -- An unrefused build: the tests were passed, so the links are a block and the order holds each frame once; the rooms hold
 -- the rows of the rule at k, none over W long.
-use Prim.Native.Nat.{ℕ, zero, suc, _+_, _*_, _≤_, _<_}
-use mathlib.Core.Path.{_≡_, refl, sym, ap, subst, _∙_}
-use mathlib.Core.Bool.{Bool, true, false, cond, _&&_, _||_}
-use mathlib.Core.List.{List, [], _∷_}
+use Prim.Native.Nat.{ℕ, _+_, _*_, _≤_, _<_}
+use mathlib.Core.Path.{_≡_, refl, sym, ap, _∙_}
+use mathlib.Core.Bool.{true}
+use mathlib.Core.List.{List}
 use native.Mathlib.Omega.{arith}
-use borrow.Author.Tests.{leb-true, ltb-false, eqb-true}
+use borrow.Author.Tests.{eqb-true}
 use lib.ListN.{length, getD, replicate}
-use lib.Dec.{leb, ltb, eqb}
-use Rattle.basics.specs.Places.{first, some, sum}
-use Rattle.basics.proofs.Laws.{both-true, either-false, first-before, some-not}
-use Rattle.refusal.specs.Tests.{test, _then_}
+use lib.Dec.{eqb}
+use Rattle.basics.specs.Places.{first, sum}
+use Rattle.basics.proofs.Laws.{first-before}
 use Rattle.refusal.specs.declared.Verdict.{Verdict}
 use Rattle.refusal.specs.declared.Verdict.the-variants.{Fine, Refused}
 use Rattle.refusal.proofs.Laws.{then-fine, test-held}
 use Rattle.theory.specs.Links.{Block, Order}
 use Rattle.theory.specs.Rows.{Row}
 use Rattle.theory.specs.Plain.{ones, rowBy}
-use Rattle.theory.proofs.Rule.{rankAt, joinsAt}
-use Rattle.theory.proofs.Plain.{plain-places, row-none}
-use Rattle.links.specs.Links.{placesFit, startsTest, listsTest}
+use Rattle.links.specs.Links.{startsTest, listsTest}
 use Rattle.links.specs.Order.{orderTest}
-use Rattle.links.proofs.Links.{links-sound}
-use Rattle.links.proofs.Order.{order-sound}
-use Rattle.rows.specs.Entry.{decode, encode}
-use Rattle.rows.specs.Rooms.{Rooms, sizesFit, rowAt}
-use Rattle.rows.proofs.Laws.{Fits, fits-none, fits-more, decode-encode}
-use Rattle.build.specs.Build.{labelsOf, countsOf, buildSizes, buildRooms, buildTests, fullAt, farAt, stopAt, walksTest, Outcome, outcome, afterWalks, afterTests, buildOf}
+use Rattle.rows.specs.Entry.{decode}
+use Rattle.rows.specs.Rooms.{Rooms, rowAt}
+use Rattle.build.specs.Build.{labelsOf, countsOf, buildTests, stopAt, walksTest, Outcome, outcome, afterWalks, afterTests, buildOf}
+use Rattle.build.specs.Settle.{rowsIn}
 use Rattle.build.specs.declared.Built.{Built}
 use Rattle.build.specs.declared.Built.the-variants.{Entries, Refused as NotBuilt}
-use Rattle.build.proofs.RoomLaws.{row-is, count-at, length-labels, length-counts}
+use Rattle.build.proofs.BuildTests.{Passed}
+use Rattle.build.proofs.BuildTests as build-tests
+use Rattle.build.proofs.RoomLaws.{count-at, length-labels, length-counts}
+use Rattle.build.proofs.RunLaws.{rows-back}
+use Rattle.build.proofs.RunStops.{stops, fit-upto}
 use Rattle.theorems.proofs.Held.{Held}
 
 -- what an unrefused build means
@@ -54,6 +53,10 @@ refusedBuild : Built → ℕ
 refusedBuild (Entries e) = 0
 refusedBuild (NotBuilt r) = 1
 
+entriesOf : Built → ℕ
+entriesOf (Entries e) = e
+entriesOf (NotBuilt r) = 0
+
 tests-fine : (lent : Outcome) (v : Verdict) (made : Outcome) (e : ℕ) (a b d f : List ℕ)
     → outcome (Entries e) a b d f ≡ afterTests lent v made → (v ≡ Fine) × (outcome (Entries e) a b d f ≡ made)
 unfolding afterTests refusedBuild
@@ -73,68 +76,21 @@ walks-fine n w R (Refused r) e a b d f q =
     let z : _≡_ {A = ℕ} 0 1 = ap (λ (o : Outcome). refusedBuild (o .answer)) q in
     absurd (omega arith)
 
-entriesOf : Built → ℕ
-entriesOf (Entries e) = e
-entriesOf (NotBuilt r) = 0
-
 -- ---- the tests
 
 -- no rank below k fills a row over W, so no row at k is
 narrow-rows : (n w k : ℕ) (S L O : List ℕ) → walksTest n w k S L O ≡ Fine → (v : ℕ) → v < n → length (rowBy n S L O k v) ≤ w
-unfolding walksTest stopAt fullAt
-narrow-rows n w zero S L O e v p = omega (arith, ap (λ (x : Row). length x) (row-none n S L O v))
-narrow-rows n w (suc r) S L O e v p =
-    let bad : ℕ → Bool = λ q. fullAt n w S L O q || farAt n S L O q in
-    let all : first bad 0 (suc r) ≡ suc r = eqb-true (first bad 0 (suc r)) (suc r) (test-held _ _ _ e) in
-    let not-full : fullAt n w S L O r ≡ false =
-    either-false _ _ (first-before bad 0 (suc r) r (omega arith) (omega arith)) .0 in
-    ltb-false w (length (rowBy n S L O (suc r) v))
-    (some-not (λ u. ltb w (length (rowBy n S L O (suc r) u))) 0 n v not-full (omega arith) (omega arith))
+unfolding walksTest stopAt
+narrow-rows n w k S L O e =
+    let all : first (stops n w S L O) 0 k ≡ k = eqb-true (first (stops n w S L O) 0 k) k (test-held _ _ _ e) in
+    fit-upto n w S L O k (λ j h. first-before (stops n w S L O) 0 k j (omega arith) (omega arith))
 
--- the tests before the walks, each passed
-pub record Passed (n w k : ℕ) (S L O : List ℕ) : Type 0 where
-  pub sizes : buildSizes n w k (length L) ≡ true
-  pub starts-long : length S ≡ n + 1
-  pub order-long : length O ≡ n
-  pub starts : startsTest n S L ≡ Fine
-  pub lists : listsTest n S L ≡ Fine
-  pub once : orderTest n O ≡ Fine
-
-pub passed : (n w k : ℕ) (S L O labels counts met queue : List ℕ) → buildTests n w k S L O labels counts met queue ≡ Fine
-    → Passed n w k S L O
-unfolding buildTests buildRooms
-passed n w k S L O labels counts met queue e =
-    let a = then-fine (test (buildSizes n w k (length L)) _ _) _ e in
-    let b = then-fine (test (buildRooms n w S O labels counts met queue) _ _) _ (a .1) in
-    let c = then-fine (startsTest n S L) _ (b .1) in
-    let d = then-fine (listsTest n S L) _ (c .1) in
-    let f = both-true (eqb (length S) (n + 1)) _ (test-held _ _ _ (b .0)) in
-    let g = both-true (eqb (length O) n) _ (f .1) in
-    record {
-      sizes = test-held _ _ _ (a .0);
-      starts-long = eqb-true (length S) (n + 1) (f .0);
-      order-long = eqb-true (length O) n (g .0);
-      starts = c .0;
-      lists = d .0;
-      once = d .1;
-    }
-
-sizes-fit : (n w k places : ℕ) → buildSizes n w k places ≡ true
-    → (1 ≤ n) × (n ≤ 4096) × (1 ≤ w) × (w ≤ 256) × (k ≤ n) × (places ≤ 65536)
-unfolding buildSizes sizesFit placesFit
-sizes-fit n w k places e =
-    let a = both-true (leb 1 n && leb n 4096 && leb 1 w && leb w 256) _ e in
-    let b = both-true (leb 1 n && leb n 4096 && leb 1 w) _ (a .0) in
-    let c = both-true (leb 1 n && leb n 4096) _ (b .0) in
-    let d = both-true (leb 1 n) _ (c .0) in
-    let f = both-true (leb k n) _ (a .1) in (
-      leb-true 1 n (d .0),
-      leb-true n 4096 (d .1),
-      leb-true 1 w (c .1),
-      leb-true w 256 (b .1),
-      leb-true k n (f .0),
-      leb-true places 65536 (f .1),
-    )
+-- the order was tested last
+order-tested : (n w k : ℕ) (S L O : List ℕ) (labels counts met queue : ℕ) → buildTests n w k S L O labels counts met queue ≡ Fine
+    → orderTest n O ≡ Fine
+unfolding buildTests
+order-tested n w k S L O labels counts met queue e =
+    then-fine (listsTest n S L) _ (then-fine (startsTest n S L) _ (then-fine _ _ (then-fine _ _ e .1) .1) .1) .1
 
 -- ---- an unrefused build
 
@@ -145,16 +101,16 @@ unfolding buildOf entriesOf
 built-tests n w k S L O labels counts met queue entries labels' counts' met' queue' e =
     let a = tests-fine _ _ _ entries labels' counts' met' queue' e in
     let b = walks-fine n w (rowBy n S L O k) _ entries labels' counts' met' queue' (a .1) in
-    let p : Passed n w k S L O = passed n w k S L O labels counts met queue (a .0) in
-    let (one, most, thin, wide, stop, places) = sizes-fit n w k (length L) (p .sizes) in
+    let p : Passed n w k S L O (length labels) (length counts) (length met) (length queue) =
+    build-tests.tests-fine n w k S L O _ _ _ _ (a .0) in
     let count-room : counts' ≡ countsOf n (rowBy n S L O k) = ap (λ (o : Outcome). o .counts) (b .1) in
     record {
-      frames = (one, most);
-      width = (thin, wide);
-      stop = stop;
-      block = links-sound n S L (p .starts) (p .lists) one most places (p .starts-long);
-      once = p .once;
-      order = order-sound n O (p .once) (p .order-long);
+      frames = (p .sizes-fit .one, p .sizes-fit .frames);
+      width = (p .sizes-fit .wide, p .sizes-fit .width);
+      stop = p .sizes-fit .stop;
+      block = p .block;
+      once = order-tested n w k S L O _ _ _ _ (a .0);
+      order = p .order;
       narrow = narrow-rows n w k S L O (b .0);
       label-room = ap (λ (o : Outcome). o .labels) (b .1);
       count-room = count-room;
@@ -165,28 +121,14 @@ built-tests n w k S L O labels counts met queue entries labels' counts' met' que
 
 -- ---- its rows
 
--- ranks and joins that fit their half of an entry at each place
-fits-by : (x : Row) → ((i : ℕ) → i < length x → (rankAt x i < 65536) × (joinsAt x i < 65536)) → Fits x
-fits-by [] small = fits-none
-fits-by (p ∷ x) small =
-    fits-more (small zero (omega arith) .0) (small zero (omega arith) .1) (fits-by x (λ i l. small (suc i) (omega arith)))
-
 module _ {n w k : ℕ} {S L O : List ℕ} {entries : ℕ} {labels counts met queue : List ℕ}
     (m : Made n w k S L O entries labels counts met queue) where
-  made-fits : (v : ℕ) → v < n → Fits (rowBy n S L O k v)
-  made-fits v p =
-      fits-by (rowBy n S L O k v)
-      (λ i l.
-      let (r, j) = plain-places (m .block) (m .order) k v i (m .stop) p l in
-      let most : n ≤ 4096 = m .frames .1 in
-      let stop : k ≤ n = m .stop in
-      (omega arith, omega arith))
-
   -- the used entries of row v are those of the row rule
   pub built-row : (v : ℕ) → v < n → decode (rowAt w labels counts v) ≡ rowBy n S L O k v
+  unfolding rowsIn
   built-row v p =
-      ap decode ((λ i. rowAt w (m .label-room i) (m .count-room i) v) ∙ row-is n w (rowBy n S L O k) v p (m .narrow v p))
-      ∙ decode-encode (made-fits v p)
+      (λ i. decode (rowAt w (m .label-room i) (m .count-room i) v))
+      ∙ rows-back (m .block) (m .order) w k (m .frames .1) (m .width .0) (m .stop) (m .narrow) v p
 
   -- the rooms of an unrefused build hold the rows of the rule
   pub built-held : Held n w k S L O labels counts

@@ -8,12 +8,14 @@ use Rattle.theorems.specs.Demands.{Demands, labelsWithout, countsWithout
 use Rattle.theorems.proofs.Answers.{answer-through, answer-never-below, answer-near-first, answer-near-second, answer-true}
 use Rattle.theorems.proofs.Built.{built-tests, built-held}
 use Rattle.theorems.proofs.Held.{Held, held-walks, held-fine, told-fine}
+use Rattle.theorems.proofs.Rule.{held-rule}
 use Rattle.theorems.proofs.NoSpare.{without-fine, hub-inside, spare-none}
 
 pub held-demands : {n w k : ℕ} {S L O labels counts : List ℕ} → Held n w k S L O labels counts → Demands n w k S L O labels counts
 held-demands {n} {w} {k} {S} {L} {O} {labels} {counts} h =
     record {
       walked = held-walks h;
+      ruled = held-rule h;
       taken = λ s t p q. told-fine n w labels counts s t (held-fine h s t p q);
       fewest = answer-through h;
       never-below = answer-never-below h;

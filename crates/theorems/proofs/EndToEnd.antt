@@ -77,7 +77,7 @@ pub end-to-end : (n w k : ℕ) (S L O labels₀ counts₀ met₀ queue₀ : List
     → (order₁ labels₁ counts₁ : List ℕ) → length order₁ ≡ n → length labels₁ ≡ n * w → length counts₁ ≡ n
     → (opened : Opened) (order₂ labels₂ counts₂ : List ℕ)
     → read opened order₂ labels₂ counts₂ ≡ readOf (take (fileSize n entries) (drop start room)) w order₁ labels₁ counts₁
-    → EndToEnd n w k S L O entries labels counts written opened order₂ labels₂ counts₂
+    → EndToEnd n w k S L O entries labels counts met queue written opened order₂ labels₂ counts₂
 end-to-end n w k S L O labels₀ counts₀ met₀ queue₀ entries labels counts met queue built out start enough written room filled
     order₁ labels₁ counts₁ p q r opened order₂ labels₂ counts₂ back =
     let m : Made n w k S L O entries labels counts met queue =
@@ -93,6 +93,9 @@ end-to-end n w k S L O labels₀ counts₀ met₀ queue₀ entries labels counts
     read-takes (take (fileSize n entries) (drop start room)) w order₁ labels₁ counts₁ n k order₂ labels₂ counts₂
     (ap (λ (a : Opened). read a order₂ labels₂ counts₂) (sym index) ∙ back) in
     record {
+      total = m .total;
+      met-zero = m .met-room;
+      queue-zero = m .queue-room;
       built = held-demands h;
       size = size;
       index = index;

@@ -1,7 +1,9 @@
 pub mod Answers
 pub mod Built
+pub mod Contracts
 pub mod Demand
 pub mod EndToEnd
 pub mod Held
 pub mod NoSpare
+pub mod Rule
 pub mod Trips

@@ -3,6 +3,7 @@
 -- claim is about chains of the links that were handed in, and about what the pair question gives back.
 use Prim.Native.Nat.{ℕ, _+_, _-_, _*_, _≤_, _<_}
 use mathlib.Core.Path.{_≡_}
+use mathlib.Core.Logic.{_↔_}
 use mathlib.Core.Bool.{cond, _&&_}
 use mathlib.Core.List.{List}
 use lib.ListN.{length, getD, set}
@@ -11,6 +12,7 @@ use Rattle.basics.specs.Places.{table}
 use Rattle.theory.specs.Links.{Link, hubOf}
 use Rattle.theory.specs.Chains.{Count, joins, none, Least, ChainOf, ThroughOf}
 use Rattle.theory.specs.Distance.{far}
+use Rattle.theory.specs.Rows.{In}
 use Rattle.theory.specs.Walk.{walks}
 use Rattle.theory.specs.Plain.{ones, joined}
 use Rattle.rows.specs.Entry.{rankOf, decode}
@@ -40,9 +42,19 @@ countsWithout counts v = set counts v (getD counts v 0 - 1)
 unfoldable pub hubAt : ℕ → List ℕ → List ℕ → ℕ → ℕ → ℕ
 hubAt w O labels v i = hubOf O (rankOf (getD labels (v * w + i) 0))
 
+-- the row rule: the row of v holds (rank of h, d(h,v)) exactly for those h of rank below k that reach v and for which no w of
+-- lower rank has d(h,w) + d(w,v) = d(h,v). Here h has rank r and m is d(h,v), w has rank q
+pub record RowRule (S L O : List ℕ) (k v r m : ℕ) : Type 0 where
+  pub used : r < k
+  pub reach : Least (Joins S L (hubOf O r) v) (joins m)
+  pub alone : (q a b : ℕ) → q < r → Least (Joins S L (hubOf O r) (hubOf O q)) (joins a) → Least (Joins S L (hubOf O q) v) (joins b)
+      → a + b ≡ m → ⊥
+
 pub record Demands (n w k : ℕ) (S L O labels counts : List ℕ) : Type 0 where
   -- demand 2: the rows are those of the published walks of the hubs of rank 0 to k - 1, in rank order, from empty rows
   pub walked : (v : ℕ) → v < n → decode (rowAt w labels counts v) ≡ walks (far 1 n) n (joined S L) (hubOf O) k v
+  -- and so the row rule's at stop k, exactly
+  pub ruled : (v : ℕ) → v < n → (r m : ℕ) → In r m (decode (rowAt w labels counts v)) ↔ RowRule S L O k v r m
   -- any two frames, equal ones included, may be asked: success is 0
   pub taken : (s t : ℕ) → s < n → t < n → pairTold n w labels counts s t .number ≡ 0
   -- demand 3: the answer is the fewest joins of a chain through one of those k hubs, none exactly if there is no such chain

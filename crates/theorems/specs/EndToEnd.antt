@@ -2,6 +2,8 @@
 use Prim.Native.Nat.{ℕ, _+_, _*_, _/_, _<_}
 use mathlib.Core.Path.{_≡_}
 use mathlib.Core.List.{List}
+use lib.ListN.{replicate}
+use Rattle.basics.specs.Places.{sum}
 use Rattle.rows.specs.Pair.{pairOf}
 use Rattle.file.specs.Layout.{stored, Same}
 use Rattle.file.specs.declared.Opened.{Opened}
@@ -14,8 +16,13 @@ fileSize n entries = 4 + (21 * n + 24 * entries + 7) / 8
 
 -- An unrefused build of `entries` entries left labels and counts; these were written and read back: what the writer and the
 -- reader then gave, and what order₂, labels₂ and counts₂ hold.
-pub record EndToEnd (n w k : ℕ) (S L O : List ℕ) (entries : ℕ) (labels counts : List ℕ) (written : Written) (opened : Opened)
-    (order₂ labels₂ counts₂ : List ℕ) : Type 0 where
+pub record EndToEnd (n w k : ℕ) (S L O : List ℕ) (entries : ℕ) (labels counts met queue : List ℕ) (written : Written)
+    (opened : Opened) (order₂ labels₂ counts₂ : List ℕ) : Type 0 where
+  -- a build that isn't refused gives the number of entries, the sum of all counts
+  pub total : entries ≡ sum counts
+  -- and leaves both work rooms 0
+  pub met-zero : met ≡ replicate n 0
+  pub queue-zero : queue ≡ replicate n 0
   -- the rooms of the build meet demands 2 and 3
   pub built : Demands n w k S L O labels counts
   -- the writer isn't refused, and gives the bytes it filled
