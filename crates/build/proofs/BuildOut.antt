@@ -15,7 +15,7 @@ use Rattle.refusal.specs.declared.Verdict.the-variants.{Fine, Refused}
 use Rattle.refusal.proofs.Laws.{test-held}
 use Rattle.theory.specs.Rows.{Row}
 use Rattle.theory.specs.Plain.{rowBy}
-use Rattle.build.specs.Build.{labelsOf, countsOf, fullAt, stopAt, walksTest, buildTests, MakeIn, RunIn, RunOut, Outcome, outcome, afterWalks, afterTests, buildOf}
+use Rattle.build.specs.Build.{labelsOf, countsOf, fullAt, stopAt, walksTest, buildTests, MakeIn, RunIn, RunOut, Outcome, outcome, afterWalks, afterTests, buildOf, builtNumber, builtPlace, builtEntries}
 use Rattle.build.specs.declared.Built.{Built}
 use Rattle.build.specs.declared.Built.the-variants.{Entries, Refused as NotBuilt}
 use Rattle.build.proofs.BuildTests.{Passed, tests-fine}
@@ -129,3 +129,14 @@ module _ (n w k : ℕ) (S L O labels counts met queue : List ℕ) where
         (λ (v : Verdict).
         afterTests (outcome (Entries 0) labels counts met queue) v (afterWalks n w (rowBy n S L O k) (walksTest n w k S L O)))
         (sym e)
+
+-- ---- the paper's numbers
+
+-- an answer is told by its number, place and entries, as no refusal has the number 0
+pub built-told : (a b : Built) → ((r : Refusal) → a ≡ NotBuilt r → 0 < r .number) → ((r : Refusal) → b ≡ NotBuilt r → 0 < r .number)
+    → builtNumber a ≡ builtNumber b → builtPlace a ≡ builtPlace b → builtEntries a ≡ builtEntries b → a ≡ b
+unfolding builtNumber builtPlace builtEntries
+built-told (Entries e) (Entries f) p q n m d = ap Entries d
+built-told (Entries e) (NotBuilt s) p q n m d = absurd (omega (arith, q s refl, n))
+built-told (NotBuilt r) (Entries f) p q n m d = absurd (omega (arith, p r refl, n))
+built-told (NotBuilt r) (NotBuilt s) p q n m d = ap NotBuilt (λ i. record { number = n i; place = m i })

@@ -126,9 +126,12 @@ unfoldable pub builtEntries : Built → ℕ
 builtEntries (Entries entries) = entries
 builtEntries (NotBuilt r) = 0
 
--- what comes back and what the lent rooms then hold
+-- what comes back, also in the paper's numbers, and what the lent rooms then hold
 pub record Outcome : Type 0 where
   pub answer : Built
+  pub number : ℕ
+  pub place : ℕ
+  pub entries : ℕ
   pub labels : List ℕ
   pub counts : List ℕ
   pub met : List ℕ
@@ -136,7 +139,16 @@ pub record Outcome : Type 0 where
 
 abbrev pub outcome : Built → List ℕ → List ℕ → List ℕ → List ℕ → Outcome
 outcome answer labels counts met queue =
-    record { answer = answer; labels = labels; counts = counts; met = met; queue = queue }
+    record {
+      answer = answer;
+      number = builtNumber answer;
+      place = builtPlace answer;
+      entries = builtEntries answer;
+      labels = labels;
+      counts = counts;
+      met = met;
+      queue = queue;
+    }
 
 -- all walks made: the number of entries is the sum of all counts, and both work rooms are 0. A walk refused: labels,
 -- counts, work rooms all 0

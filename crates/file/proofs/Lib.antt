@@ -5,6 +5,7 @@ pub mod Gather
 pub mod Heading
 pub mod Inversion
 pub mod LayoutLaws
+pub mod Numbered
 pub mod Packed
 pub mod Pen
 pub mod ReadBack

@@ -201,6 +201,7 @@ readOf s w order labels counts =
 
 -- ---- the paper's numbers of an answer
 
+-- number and place, n and k
 pub record Told : Type 0 where
   pub number : ℕ
   pub place : ℕ

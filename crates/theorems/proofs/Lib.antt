@@ -6,4 +6,10 @@ pub mod EndToEnd
 pub mod Held
 pub mod NoSpare
 pub mod Rule
+pub mod Same
+pub mod SameBuild
+pub mod SameFile
+pub mod SameLinks
+pub mod SameRows
+pub mod Starred
 pub mod Trips
