@@ -8,7 +8,10 @@ use borrow.Fn.Kinds.{Dens, endedOf}
 use denote.Ref.{now}
 use denote.Triple.Clauses.{AtExit}
 use lib.ListN.{length, take, drop}
-use Rattle.rows.specs.Pair.{pairOf, countOf}
+use Rattle.theory.specs.Links.{Link, hubOf}
+use Rattle.theory.specs.Chains.{Least, ThroughOf}
+use Rattle.theory.specs.Plain.{ones}
+use Rattle.rows.specs.Pair.{pairOf, pairTold, Told, told, countOf}
 use Rattle.rows.specs.declared.pair.Answer.{Answer}
 use Rattle.rows.proofs.pair.pair.Kinds as pair-kinds
 use Rattle.rows.proofs.pair.pair.Reads as pair-reads
@@ -17,6 +20,8 @@ use Rattle.build.specs.declared.Built.{Built}
 use Rattle.build.specs.declared.Built.the-variants.{Entries}
 use Rattle.build.proofs.build.Kinds as build-kinds
 use Rattle.build.proofs.build.Reads as build-reads
+use Rattle.file.specs.Bits.{Bytes}
+use Rattle.file.specs.Layout.{stored, Same}
 use Rattle.file.specs.Reader.{outcome as read, readOf}
 use Rattle.file.specs.Writer.{wrote, writeOf}
 use Rattle.file.specs.declared.Opened.{Opened}
@@ -29,6 +34,7 @@ use Rattle.theorems.specs.Demands.{Demands, askedOf}
 use Rattle.theorems.specs.EndToEnd.{EndToEnd, fileSize}
 use Rattle.theorems.proofs.Demand.{built-demands}
 use Rattle.theorems.proofs.EndToEnd.{end-to-end}
+use Rattle.theorems.proofs.Trips.{write-then-read, read-then-written}
 
 -- a call of the build
 pub record BuildCall (n w k : ℕ) (S L O labels₀ counts₀ met₀ queue₀ : List ℕ) (r : Built) (labels counts met queue : List ℕ) : Type 1 where
@@ -129,6 +135,13 @@ pair-out c =
     ap countOf
     (c .post .0 ∙ (λ i. pairOf (c .frames i) (c .width i) (c .labels-lent i) (c .counts-lent i) (c .first i) (c .second i)))
 
+-- with the paper's numbers
+pair-numbers : {n w : ℕ} {labels counts : List ℕ} {s t : ℕ} {r : Answer} → PairCall n w labels counts s t r
+    → told r ≡ pairTold n w labels counts s t
+pair-numbers c =
+    c .post .1
+    ∙ (λ i. pairTold (c .frames i) (c .width i) (c .labels-lent i) (c .counts-lent i) (c .first i) (c .second i))
+
 -- any unrefused call of the build leaves rooms that meet demands 2 and 3
 pub build-demands : {n w k : ℕ} {S L O labels₀ counts₀ met₀ queue₀ : List ℕ} {entries : ℕ} {labels counts met queue : List ℕ}
     → BuildCall n w k S L O labels₀ counts₀ met₀ queue₀ (Entries entries) labels counts met queue
@@ -146,3 +159,29 @@ pub calls-end-to-end : {n w k : ℕ} {S L O labels₀ counts₀ met₀ queue₀ 
     → EndToEnd n w k S L O entries labels counts met queue written opened order₂ labels₂ counts₂
 calls-end-to-end built enough wrote p q r back =
     end-to-end _ _ _ _ _ _ _ _ _ _ _ _ _ _ _ (build-out built) _ _ enough _ _ (write-out wrote) _ _ _ p q r _ _ _ _ (read-out back)
+
+-- and whichever of these rooms is then asked, what the pair question hands back is demand 3's answer, with number 0
+pub calls-asked : {n w k : ℕ} {S L O labels counts : List ℕ} {s t : ℕ} {r : Answer} → Demands n w k S L O labels counts
+    → PairCall n w labels counts s t r → s < n → t < n
+    → (told r .number ≡ 0) × Least (ThroughOf (Link S L ones) (hubOf O) k s t) (countOf r)
+calls-asked {k} {S} {L} {O} {s} {t} d c p q = (
+  ap (λ (x : Told). x .number) (pair-numbers c) ∙ d .taken s t p q,
+  subst (Least (ThroughOf (Link S L ones) (hubOf O) k s t)) (sym (pair-out c)) (d .fewest s t p q),
+)
+
+-- any index written, and read back with the same W into rooms of the right lengths, is the same index
+pub calls-write-read : {n w k : ℕ} {O labels counts out : List ℕ} {start bytes : ℕ} {room : List ℕ}
+    → WriteCall n w k O labels counts out start (Written.Bytes bytes) room
+    → {order₁ labels₁ counts₁ : List ℕ} → length order₁ ≡ n → length labels₁ ≡ n * w → length counts₁ ≡ n
+    → {opened : Opened} {order₂ labels₂ counts₂ : List ℕ}
+    → ReadCall (take bytes (drop start room)) w order₁ labels₁ counts₁ opened order₂ labels₂ counts₂
+    → (opened ≡ Opened.Index n k) × Same (stored n k w O labels counts) (stored n k w order₂ labels₂ counts₂)
+calls-write-read c p q r back =
+    write-then-read _ _ _ _ _ _ _ _ _ _ (write-out c) _ refl _ _ _ p q r _ _ _ _ (read-out back)
+
+-- any file read, and its index written again with the same W into room enough, is the same file
+pub calls-read-write : {bytes : List ℕ} → Bytes bytes → {n w k : ℕ} {order labels counts O L C : List ℕ}
+    → ReadCall bytes w order labels counts (Opened.Index n k) O L C
+    → {out : List ℕ} {start : ℕ} {written : Written} {room : List ℕ} → WriteCall n w k O L C out start written room
+    → start + length bytes ≤ length out → (written ≡ Written.Bytes (length bytes)) × (take (length bytes) (drop start room) ≡ bytes)
+calls-read-write b c d enough = read-then-written _ b _ _ _ _ _ _ _ _ _ (read-out c) _ _ _ _ (write-out d) enough

@@ -1,6 +1,6 @@
 -- Demands 2 and 3 of an index in its rooms, over the links and the order handed in. n frames, width w, stop k, start
--- positions S, neighbour places L, order O, label room, count room. Nothing here speaks of infinity or of distances: a
--- claim is about chains of the links that were handed in, and about what the pair question gives back.
+-- positions S, neighbour places L, order O, label room, count room. Demand 3 is
+-- about chains of the links that were handed in and about what the pair question gives back, nothing in between.
 use Prim.Native.Nat.{ℕ, _+_, _-_, _*_, _≤_, _<_}
 use mathlib.Core.Path.{_≡_}
 use mathlib.Core.Logic.{_↔_}
