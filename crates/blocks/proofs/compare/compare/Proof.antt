@@ -1,0 +1,58 @@
+-- Nothing is lent to change. Each turn is one frame on, up to n.
+use Prim.Native.Nat.{_-_}
+use borrow.Author.Needs.{needs}
+use Rattle.blocks.proofs.compare.compare.Statement.{statement}
+use Rattle.blocks.proofs.compare.compare.Tie as tie
+
+abbrev Inv-loop : tie.InvT-loop
+Inv-loop n w k labels counts sums tally₀ s₀ tally s = Unit {0}
+
+abbrev μ-loop : tie.MeasureT-loop
+μ-loop n w k labels counts sums tally₀ s₀ tally s = n - s
+
+built-requires : tie.Need-built-requires Inv-loop μ-loop
+built-requires c κs = search needs
+
+loop-holds : tie.Need-loop-holds Inv-loop μ-loop
+loop-holds c = search needs
+
+compare-row-requires : tie.Need-compare-row-requires Inv-loop μ-loop
+compare-row-requires c κs = search needs
+
+unequal-requires : tie.Need-unequal-requires Inv-loop μ-loop
+unequal-requires c κs = search needs
+
+returns : tie.Need-returns Inv-loop μ-loop
+returns c = search needs
+
+compared-requires : tie.Need-compared-requires Inv-loop μ-loop
+compared-requires c κs = search needs
+
+add-s : tie.Need-add-s Inv-loop μ-loop
+add-s c = search needs
+
+loop-less : tie.Need-loop-less Inv-loop μ-loop
+loop-less c = search needs
+
+loop-again : tie.Need-loop-again Inv-loop μ-loop
+loop-again c = search needs
+
+returns-2 : tie.Need-returns-2 Inv-loop μ-loop
+returns-2 c = search needs
+
+pub compare-spec : {M : Type 1} → statement M
+compare-spec =
+    tie.close
+    (tie.spec
+    Inv-loop
+    μ-loop
+    built-requires
+    loop-holds
+    compare-row-requires
+    unequal-requires
+    returns
+    compared-requires
+    add-s
+    loop-less
+    loop-again
+    returns-2)

@@ -1,0 +1,125 @@
+// One build of a block, and every pair's answer held against the least sums of the searches.
+use crate::room::get;
+use crate::say;
+use crate::search::NONE;
+use crate::search::sum_of;
+use crate::tally::Tally;
+use build::Built;
+use build::build;
+use refusal::ROOM;
+use refusal::Refusal;
+use rows::entry::Entry;
+use rows::pair::Answer;
+use rows::pair::pair;
+
+// Whether an answer is the count of the search.
+pub fn is_equal(said: Answer, joins: u32) -> bool {
+    match said {
+        Answer::Joins(sum) => {
+            if joins == NONE {
+                return false;
+            }
+            sum == joins as usize
+        }
+        Answer::None => joins == NONE,
+        Answer::Refused(_) => false,
+    }
+}
+
+// Whether every answer for s is the least sum; the first that is not is printed.
+fn compare_row(
+    n: usize,
+    w: usize,
+    k: usize,
+    labels: &[Entry],
+    counts: &[u32],
+    sums: &[u32],
+    s: usize,
+) -> bool {
+    let mut t = 0;
+    while t < n {
+        let said = pair(n, w, labels, counts, s, t);
+        let joins = sum_of(sums, s, t);
+        if !is_equal(said, joins) {
+            say::difference(n, k, s, t, said, joins);
+            return false;
+        }
+        t += 1;
+    }
+    true
+}
+
+// Every pair of one build.
+fn compare(
+    n: usize,
+    w: usize,
+    k: usize,
+    labels: &[Entry],
+    counts: &[u32],
+    sums: &[u32],
+    before: Tally,
+) -> Tally {
+    let mut tally = before.built();
+    let mut s = 0;
+    while s < n {
+        if !compare_row(n, w, k, labels, counts, sums, s) {
+            return tally.unequal();
+        }
+        tally = tally.compared(n);
+        s += 1;
+    }
+    tally
+}
+
+// A refused build: for want of room in a row narrower than n it is counted, and anything else is a fault.
+fn refused(n: usize, w: usize, k: usize, refusal: Refusal, before: Tally) -> Tally {
+    if refusal.number == ROOM {
+        if w < n {
+            return before.refused();
+        }
+    }
+    say::refusal(n, k, refusal.number, refusal.place);
+    before.unequal()
+}
+
+// Whether a stop is tried: 0, 1, 2, n / 2, n - 1 and n.
+fn is_stop(n: usize, k: usize) -> bool {
+    if k < 3 {
+        return true;
+    }
+    if k == n / 2 {
+        return true;
+    }
+    if n < k {
+        return false;
+    }
+    n - k < 2
+}
+
+// Builds with stop k, if that is one to be tried, and compares.
+pub fn try_stop(
+    n: usize,
+    w: usize,
+    k: usize,
+    starts: &[u32],
+    places: &[u32],
+    order: &[u32],
+    labels: &mut [Entry],
+    counts: &mut [u32],
+    met: &mut [u32],
+    queue: &mut [u32],
+    sums: &[u32],
+    before: Tally,
+) -> Tally {
+    if !before.is_equal {
+        return before;
+    }
+    if !is_stop(n, k) {
+        return before;
+    }
+    let built = build(n, w, k, starts, places, order, labels, counts, met, queue);
+    match built {
+        Built::Entries(_) => compare(n, w, k, labels, counts, sums, before),
+        Built::Refused(refusal) => refused(n, w, k, refusal, before),
+    }
+}

@@ -1,0 +1,123 @@
+// Blocks and orders at random. A block is a square of marks, symmetric and without its diagonal, and is then laid out as
+// start positions and lists.
+ghost use Prim.Native.Nat.{_<_};
+use crate::room::get;
+use crate::room::push;
+use crate::room::put;
+
+// Frames of the largest block: the side of the square.
+pub const SIDE: usize = 200;
+
+// The next number of a run that depends on the seed alone.
+pub fn roll(seed: u64) -> u64 {
+    (seed % 2147483647) * 48271 % 2147483647
+}
+
+// A number below `most`, 0 where that is 0.
+pub fn below(seed: u64, most: usize) -> usize
+    ensures { λ r. ⌜ r < 2147483647 ⌝ }
+{
+    if most == 0 {
+        return 0;
+    }
+    (seed % 2147483647) as usize % most
+}
+
+// Marks one join both ways, unless it is a frame with itself.
+fn mark(marks: &mut [u32], s: usize, t: usize) {
+    if s == t {
+        return;
+    }
+    if SIDE <= s {
+        return;
+    }
+    if SIDE <= t {
+        return;
+    }
+    put(marks, s * SIDE + t, 1);
+    put(marks, t * SIDE + s, 1);
+}
+
+// Whether frame s is joined to frame t.
+fn is_marked(marks: &[u32], s: usize, t: usize) -> bool {
+    if SIDE <= s {
+        return false;
+    }
+    if SIDE <= t {
+        return false;
+    }
+    get(marks, s * SIDE + t) == 1
+}
+
+// Draws so many joins between n frames; some fall together, and some frames stay alone.
+pub fn draw(marks: &mut [u32], n: usize, joins: usize, first: u64) {
+    let mut seed = first;
+    let mut left = joins;
+    while 0 < left {
+        let one = roll(seed);
+        let two = roll(one);
+        mark(marks, below(one, n), below(two, n));
+        seed = two;
+        left -= 1;
+    }
+}
+
+// A path through all frames below n, for blocks of long distances.
+pub fn draw_path(marks: &mut [u32], n: usize) {
+    let mut v = 1;
+    while v < n {
+        mark(marks, v - 1, v);
+        v += 1;
+    }
+}
+
+// The list of frame v from place `from` on; the place behind it.
+fn lay_list(marks: &[u32], n: usize, v: usize, places: &mut [u32], from: usize) -> usize {
+    let mut at = from;
+    let mut u = 0;
+    while u < n {
+        if is_marked(marks, v, u) {
+            at = push(places, at, u);
+        }
+        u += 1;
+    }
+    at
+}
+
+// Start positions and lists of the marked joins; how many neighbour places there are.
+pub fn lay(marks: &[u32], n: usize, starts: &mut [u32], places: &mut [u32]) -> usize {
+    let mut at = 0;
+    let mut v = 0;
+    while v < n {
+        push(starts, v, at);
+        at = lay_list(marks, n, v, places, at);
+        v += 1;
+    }
+    push(starts, n, at);
+    at
+}
+
+// Every frame at the rank that is its number.
+fn number(order: &mut [u32], n: usize) {
+    let mut v = 0;
+    while v < n {
+        push(order, v, v);
+        v += 1;
+    }
+}
+
+// A random order of the frames below n.
+pub fn shuffle(order: &mut [u32], n: usize, first: u64) {
+    number(order, n);
+    let mut seed = first;
+    let mut left = n;
+    while 1 < left {
+        seed = roll(seed);
+        let other = below(seed, left);
+        left -= 1;
+        let frame = get(order, other);
+        let last = get(order, left);
+        put(order, other, last);
+        put(order, left, frame);
+    }
+}

@@ -1,0 +1,17 @@
+// The independent second program: random blocks, every pair's answer held against plain breadth-first counts through the
+// first k hubs. The counts share no code with the library: lists come from a square of marks, distances from a search that
+// knows nothing of rows, and the least sum over the hubs is kept for every pair. It prints how many blocks, builds and
+// pairs were compared, and `all equal` or the first difference.
+mod compare;
+mod draw;
+mod grid;
+mod random;
+mod room;
+mod say;
+mod search;
+mod tally;
+
+fn main() {
+    random::random_blocks();
+    grid::grid();
+}

@@ -1,0 +1,45 @@
+// One place of a room, read and stored: past the end a read is 0 and a store does nothing, so that no caller owes a bound.
+
+pub fn get(room: &[u32], at: usize) -> u32 {
+    if at < room.len() { room[at] } else { 0 }
+}
+
+pub fn put(room: &mut [u32], at: usize, value: u32) {
+    if at < room.len() {
+        room[at] = value;
+    }
+}
+
+// Stores a number behind the ones before it; the place behind it.
+pub fn push(room: &mut [u32], at: usize, value: usize) -> usize {
+    if at < room.len() {
+        room[at] = (value % 65536) as u32;
+        return at + 1;
+    }
+    at
+}
+
+// The first n places of a room, and all of it where there are fewer: the library then says LENGTH.
+pub fn part(room: &[u32], n: usize) -> &[u32] {
+    if room.len() < n {
+        return room;
+    }
+    &room[..n]
+}
+
+// The same part, to be changed.
+pub fn front(room: &mut [u32], n: usize) -> &mut [u32] {
+    if room.len() < n {
+        return room;
+    }
+    &mut room[..n]
+}
+
+// Every place of a room set to one value.
+pub fn fill(room: &mut [u32], value: u32) {
+    let mut at = 0;
+    while at < room.len() {
+        room[at] = value;
+        at += 1;
+    }
+}

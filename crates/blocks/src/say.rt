@@ -1,0 +1,52 @@
+// What the program prints.
+use crate::search::NONE;
+use libc::STDOUT_FILENO;
+use rows::pair::Answer;
+
+pub fn text(words: &[u8]) {
+    io::write_all(STDOUT_FILENO, words);
+}
+
+// A word and a number behind it.
+pub fn field(word: &[u8], number: usize) {
+    io::write_all(STDOUT_FILENO, word);
+    io::print_decimal(STDOUT_FILENO, number as u64);
+}
+
+// What the index said.
+fn answer(said: Answer) {
+    match said {
+        Answer::Joins(joins) => field(b" index ", joins),
+        Answer::None => text(b" index none"),
+        Answer::Refused(refusal) => field(b" index refused ", refusal.number as usize),
+    }
+}
+
+// What the search said.
+fn count(joins: u32) {
+    if joins == NONE {
+        text(b" search none");
+    } else {
+        field(b" search ", joins as usize);
+    }
+}
+
+// A pair whose answer is not the count of the search.
+pub fn difference(n: usize, k: usize, s: usize, t: usize, said: Answer, joins: u32) {
+    field(b"differs: n ", n);
+    field(b" k ", k);
+    field(b" s ", s);
+    field(b" t ", t);
+    answer(said);
+    count(joins);
+    text(b"\n");
+}
+
+// A refusal that nothing in the block asks for.
+pub fn refusal(n: usize, k: usize, number: u32, place: usize) {
+    field(b"refused: n ", n);
+    field(b" k ", k);
+    field(b" number ", number as usize);
+    field(b" place ", place);
+    text(b"\n");
+}

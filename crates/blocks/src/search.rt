@@ -1,0 +1,101 @@
+// Plain breadth-first counts, and for each pair the least sum over the hubs searched so far.
+use crate::draw::SIDE;
+use crate::room::fill;
+use crate::room::get;
+use crate::room::push;
+use crate::room::put;
+
+// What stands for no chain: above every count of joins and every sum of two.
+pub const NONE: u32 = 65536;
+
+// Joins from the hub to every frame below n, NONE where there is no chain.
+pub fn search_from(
+    n: usize,
+    starts: &[u32],
+    places: &[u32],
+    hub: usize,
+    joins: &mut [u32],
+    queue: &mut [u32],
+) {
+    fill(joins, NONE);
+    put(joins, hub, 0);
+    let mut head = 0;
+    let mut tail = push(queue, 0, hub);
+    while head < n {
+        if tail <= head {
+            return;
+        }
+        let u = get(queue, head) as usize;
+        tail = reach(starts, places, u, joins, queue, tail);
+        head += 1;
+    }
+}
+
+// Meets a frame: unless it has a count, it gets this one and goes to the queue's end. Where the queue then ends.
+fn meet(v: usize, count: u32, joins: &mut [u32], queue: &mut [u32], end: usize) -> usize {
+    if get(joins, v) != NONE {
+        return end;
+    }
+    put(joins, v, count);
+    push(queue, end, v)
+}
+
+// Meets the frames of u's list at one join more than u; where the queue then ends.
+fn reach(
+    starts: &[u32],
+    places: &[u32],
+    u: usize,
+    joins: &mut [u32],
+    queue: &mut [u32],
+    tail: usize,
+) -> usize {
+    let next = get(joins, u) % NONE + 1;
+    let mut end = tail;
+    let mut at = get(starts, u) as usize;
+    let last = get(starts, u % 65536 + 1) as usize;
+    while at < last {
+        end = meet(get(places, at) as usize, next, joins, queue, end);
+        at += 1;
+    }
+    end
+}
+
+// Takes one more hub into the sums: for each pair the joins from the first frame to the hub and on to the second.
+pub fn lower_sums(n: usize, joins: &[u32], sums: &mut [u32]) {
+    let mut s = 0;
+    while s < n {
+        lower_row(n, s, joins, sums);
+        s += 1;
+    }
+}
+
+fn lower_row(n: usize, s: usize, joins: &[u32], sums: &mut [u32]) {
+    if SIDE < n {
+        return;
+    }
+    if SIDE <= s {
+        return;
+    }
+    let there = get(joins, s) as usize;
+    let mut t = 0;
+    while t < n {
+        let sum = there + get(joins, t) as usize;
+        let at = s * SIDE + t;
+        let least = get(sums, at) as usize;
+        if sum < least {
+            put(sums, at, sum as u32);
+        }
+        t += 1;
+    }
+}
+
+// The least sum for a pair of frames, NONE where no hub searched so far reaches both.
+pub fn sum_of(sums: &[u32], s: usize, t: usize) -> u32 {
+    if SIDE <= s {
+        return NONE;
+    }
+    if SIDE <= t {
+        return NONE;
+    }
+    get(sums, s * SIDE + t)
+}
