@@ -8,8 +8,10 @@ pub mod NoSpare
 pub mod Rule
 pub mod Same
 pub mod SameBuild
+pub mod SameC
 pub mod SameFile
 pub mod SameLinks
+pub mod SameListing
 pub mod SameRows
 pub mod Starred
 pub mod Trips
