@@ -5,7 +5,7 @@ use mathlib.Core.Path.{_≡_, refl, sym, ap, subst, _∙_}
 use mathlib.Core.List.{List}
 use native.Mathlib.Omega.{arith}
 use Rattle.theory.specs.Links.{Link, Block, hubOf}
-use Rattle.theory.specs.Chains.{Chain, Count, joins, none, Least, ChainOf, ThroughOf, linkCount}
+use Rattle.theory.specs.Chains.{Chain, Count, joins, none, Least, ThroughOf}
 use Rattle.theory.specs.Distance.{far, said}
 use Rattle.theory.specs.Plain.{ones, answerBy}
 use Rattle.theory.proofs.DistVia.{chain-join}

@@ -1,13 +1,11 @@
 -- An unrefused build: the tests were passed, so the links are a block and the order holds each frame once; the rooms hold
 -- the rows of the rule at k, none over W long.
-use Prim.Native.Nat.{ℕ, _+_, _*_, _≤_, _<_}
+use Prim.Native.Nat.{ℕ, _≤_, _<_}
 use mathlib.Core.Path.{_≡_, refl, sym, ap, _∙_}
-use mathlib.Core.Bool.{true}
 use mathlib.Core.List.{List}
 use native.Mathlib.Omega.{arith}
 use borrow.Author.Tests.{eqb-true}
 use lib.ListN.{length, getD, replicate}
-use lib.Dec.{eqb}
 use Rattle.basics.specs.Places.{first, sum}
 use Rattle.basics.proofs.Laws.{first-before}
 use Rattle.refusal.specs.declared.Verdict.{Verdict}
@@ -19,7 +17,7 @@ use Rattle.theory.specs.Plain.{ones, rowBy}
 use Rattle.links.specs.Links.{startsTest, listsTest}
 use Rattle.links.specs.Order.{orderTest}
 use Rattle.rows.specs.Entry.{decode}
-use Rattle.rows.specs.Rooms.{Rooms, rowAt}
+use Rattle.rows.specs.Rooms.{rowAt}
 use Rattle.build.specs.Build.{labelsOf, countsOf, buildTests, stopAt, walksTest, Outcome, outcome, afterWalks, afterTests, buildOf}
 use Rattle.build.specs.Settle.{rowsIn}
 use Rattle.build.specs.declared.Built.{Built}

@@ -1,7 +1,7 @@
 -- From the links handed in to an answer asked of a file read back. The read-back rooms have the built ones' counts and used
 -- entries, so they hold the rows of the rule too, and demands 2 and 3 follow for them as for the built ones.
-use Prim.Native.Nat.{ℕ, _+_, _*_, _≤_, _<_}
-use mathlib.Core.Path.{_≡_, refl, sym, ap, subst, _∙_}
+use Prim.Native.Nat.{ℕ, _+_, _*_, _≤_}
+use mathlib.Core.Path.{_≡_, sym, ap, _∙_}
 use mathlib.Core.List.{List}
 use native.Mathlib.Omega.{arith}
 use lib.ListN.{length, getD, take, drop, List·getD-eq-default}
@@ -9,7 +9,7 @@ use Rattle.basics.specs.Places.{sum}
 use Rattle.basics.proofs.Laws.{lt-or-ge}
 use Rattle.rows.specs.Entry.{decode}
 use Rattle.rows.specs.Pair.{pairOf}
-use Rattle.rows.specs.Rooms.{Rooms, rowAt}
+use Rattle.rows.specs.Rooms.{Rooms}
 use Rattle.rows.proofs.PairDepends.{SameRow, pair-depends}
 use Rattle.build.specs.Build.{outcome, buildOf}
 use Rattle.build.specs.declared.Built.the-variants.{Entries}

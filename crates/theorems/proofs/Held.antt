@@ -1,6 +1,6 @@
 -- Rooms that hold the rows of the rule: their rows are sound, no pair of frames is refused, and the answer is the theory's.
 use Prim.Native.Nat.{ℕ, _+_, _≤_, _<_}
-use mathlib.Core.Path.{_≡_, refl, sym, ap, subst, _∙_}
+use mathlib.Core.Path.{_≡_, refl, sym, ap, _∙_}
 use mathlib.Core.Bool.{true}
 use mathlib.Core.List.{List}
 use native.Mathlib.Omega.{arith}
@@ -15,8 +15,8 @@ use Rattle.theory.proofs.Rule.{rankAt, joinsAt}
 use Rattle.theory.proofs.Plain.{plain-rising, plain-places, plain-walks}
 use Rattle.rows.specs.Entry.{rankOf, joinsOf, decode}
 use Rattle.rows.specs.Meetings.{meetingOf}
-use Rattle.rows.specs.Pair.{pairTests, pairOf, pairTold, toldBy}
-use Rattle.rows.specs.Rooms.{Rooms, rowAt, soundRow, rowsTest, checkRows}
+use Rattle.rows.specs.Pair.{pairTests, pairTold, toldBy}
+use Rattle.rows.specs.Rooms.{Rooms, rowAt, soundRow, rowsTest}
 use Rattle.rows.specs.declared.merge.Best.{Best}
 use Rattle.rows.proofs.Laws.{Sound, sound-row, length-decode, getD-decode}
 use Rattle.rows.proofs.RoomLaws.{length-row, sound-rows, rows-alone}

@@ -1,32 +1,31 @@
 -- No entry is spare, in the rooms: with used entry i of row v taken out, every other row is as it was, row v has that entry
 -- less and is sound, so the pair of its hub and v is answered by the theory, and otherwise.
-use Prim.Native.Nat.{ℕ, zero, suc, _+_, _-_, _*_, _≤_, _<_}
+use Prim.Native.Nat.{ℕ, suc, _+_, _-_, _*_, _≤_, _<_}
 use mathlib.Core.Path.{_≡_, refl, sym, ap, subst, _∙_}
-use mathlib.Core.Bool.{Bool, true, false, cond, _&&_}
-use mathlib.Core.List.{List, [], _∷_, _++_}
+use mathlib.Core.Bool.{true, false, _&&_}
+use mathlib.Core.List.{List, _∷_, _++_}
 use native.Mathlib.Decide.{ℕ-discrete}
 use native.Mathlib.Omega.{arith}
 use borrow.Author.Tests.{lt-ltb, le-ltb, le-leb, lt-leb, eq-eqb, ne-eqb}
-use lib.ListN.{length, getD, set, take, drop, length-set, length-append, length-take, length-drop, List·getD-append}
+use lib.ListN.{length, getD, take, drop, length-set, length-append, length-take, length-drop, List·getD-append}
 use lib.Seq.{getD-set-same, getD-set-other, getD-take, getD-drop, getD-append-add, split-at, ext-getD}
 use lib.Dec.{leb, ltb}
-use Rattle.basics.specs.Places.{table}
 use Rattle.basics.proofs.Laws.{by-cases, lt-or-ge, three-ways, cond-true, cond-false, length-table, getD-table}
 use Rattle.refusal.specs.declared.Verdict.the-variants.{Fine}
 use Rattle.theory.specs.Links.{hubOf}
 use Rattle.theory.specs.Distance.{far, said}
 use Rattle.theory.specs.Rows.{Row, answer, instead}
-use Rattle.theory.specs.Plain.{rowBy, answerBy}
+use Rattle.theory.specs.Plain.{rowBy}
 use Rattle.theory.proofs.Plain.{plain-spare}
 use Rattle.rows.specs.Entry.{rankOf, joinsOf, decode}
 use Rattle.rows.specs.Pair.{pairTests}
-use Rattle.rows.specs.Rooms.{Rooms, rowAt, part, soundRow}
+use Rattle.rows.specs.Rooms.{Rooms, rowAt, soundRow}
 use Rattle.rows.proofs.Laws.{Sound, sound-row, row-inside, getD-part, decode-append}
 use Rattle.rows.proofs.RoomLaws.{length-row}
 use Rattle.rows.proofs.PairLaws.{asked-fine}
 use Rattle.rows.proofs.PairAnswer.{pair-answer}
 use Rattle.theorems.specs.Demands.{askedOf, labelsWithout, countsWithout, hubAt}
-use Rattle.theorems.proofs.Held.{Held, held-length, held-sound, held-answer, held-row}
+use Rattle.theorems.proofs.Held.{Held, held-length, held-sound, held-answer}
 
 instead-at : (R : ℕ → Row) (v : ℕ) (x : Row) (u : ℕ) → u ≡ v → instead R v x u ≡ x
 unfolding instead

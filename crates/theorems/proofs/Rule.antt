@@ -1,23 +1,22 @@
 -- The rows that rooms hold are exactly the row rule's, in chains: d(a,b) is the least number of links of a chain from a to b.
-use Prim.Native.Nat.{ℕ, _+_, _≤_, _<_}
-use mathlib.Core.Path.{_≡_, refl, sym, ap, subst, _∙_}
+use Prim.Native.Nat.{ℕ, _<_}
+use mathlib.Core.Path.{_≡_, sym, subst, _∙_}
 use mathlib.Core.Logic.{_↔_}
 use mathlib.Core.List.{List}
 use native.Mathlib.Nat.{le-antisymm}
 use native.Mathlib.Omega.{arith}
 use Rattle.basics.proofs.Laws.{lt-or-ge}
 use Rattle.theory.specs.Links.{Block, hubOf}
-use Rattle.theory.specs.Chains.{Count, joins, none, Least}
-use Rattle.theory.specs.Distance.{far, said}
-use Rattle.theory.specs.Rows.{Row, In, Rule}
-use Rattle.theory.specs.Plain.{ones, joinsTo, rowBy}
+use Rattle.theory.specs.Chains.{joins, none, Least}
+use Rattle.theory.specs.Distance.{far}
+use Rattle.theory.specs.Rows.{In}
+use Rattle.theory.specs.Plain.{ones, joinsTo}
 use Rattle.theory.proofs.Answer.{said-joins, said-none}
 use Rattle.theory.proofs.DistPlain.{joins-is}
 use Rattle.theory.proofs.Plain.{plain-in-row}
 use Rattle.rows.specs.Entry.{decode}
 use Rattle.rows.specs.Rooms.{rowAt}
 use Rattle.theorems.specs.Demands.{Joins, RowRule}
-use Rattle.theorems.proofs.Answers.{least-some}
 use Rattle.theorems.proofs.Held.{Held}
 
 module _ {n : ℕ} {S L : List ℕ} (block : Block n 1 S L ones) (a b : ℕ) (p : a < n) where

@@ -10,7 +10,7 @@ use lib.ListN.{length, getD, set}
 use lib.Dec.{leb, ltb}
 use Rattle.basics.specs.Places.{table}
 use Rattle.theory.specs.Links.{Link, hubOf}
-use Rattle.theory.specs.Chains.{Count, joins, none, Least, ChainOf, ThroughOf}
+use Rattle.theory.specs.Chains.{Count, joins, Least, ChainOf, ThroughOf}
 use Rattle.theory.specs.Distance.{far}
 use Rattle.theory.specs.Rows.{In}
 use Rattle.theory.specs.Walk.{walks}

@@ -1,5 +1,5 @@
 -- From the links handed in to an answer asked of a file read back: what a reader may hold against demands 2 and 3.
-use Prim.Native.Nat.{ℕ, _+_, _*_, _/_, _<_}
+use Prim.Native.Nat.{ℕ, _+_, _*_, _/_}
 use mathlib.Core.Path.{_≡_}
 use mathlib.Core.List.{List}
 use lib.ListN.{replicate}
