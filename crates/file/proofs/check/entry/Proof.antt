@@ -1,9 +1,9 @@
 -- `entry`: a legal entry whose bytes are there goes on with its rank, every other one is tested field by field.
 use Prim.Native.Nat.{ℕ, _/_, _%_}
-use mathlib.Core.Path.{_≡_, ap, _∙_}
+use mathlib.Core.Path.{ap, _∙_}
 use native.Mathlib.Omega.{arith}
 use borrow.Author.Needs.{needs}
-use Rattle.file.specs.Bits.{fieldAt, byteLen}
+use Rattle.file.specs.Bits.{byteLen}
 use Rattle.file.proofs.Bits.{pair-rank, pair-joins}
 use Rattle.file.proofs.Fields.{entry-legal}
 use Rattle.file.proofs.Steps.{short-fine, step-fine}

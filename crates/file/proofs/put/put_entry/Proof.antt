@@ -1,12 +1,11 @@
 -- One entry: its two fields are one number of 24 bits, so three bytes are stored, and the bits that wait are its last ones.
-use Prim.Native.Nat.{ℕ, _+_, _-_, _*_, _/_, _%_, _^_, _≤_, _<_}
+use Prim.Native.Nat.{ℕ, _+_, _-_, _*_, _/_, _%_, _^_, _<_}
 use mathlib.Core.Path.{_≡_, refl, sym, ap, _∙_}
 use mathlib.Core.List.{List, [], _∷_}
 use native.Mathlib.Omega.{arith}
 use native.Mathlib.Nat.{lt-of-lt-of-le}
 use borrow.Author.Needs.{needs}
-use denote.Ref.{now}
-use lib.ListN.{length, set}
+use lib.ListN.{set}
 use lib.Pow.{pow-mono, low, mod-mod-pow}
 use Rattle.rows.specs.Entry.{rankOf, joinsOf}
 use Rattle.file.specs.declared.put.Pen.{Pen}
