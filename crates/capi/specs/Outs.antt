@@ -11,6 +11,7 @@ use Rattle.rows.specs.Rooms.{checkRow}
 use Rattle.rows.specs.Lookup.{rowOf, rowStart}
 use Rattle.rows.specs.Pair as pair
 use Rattle.rows.specs.Spread as spread
+use Rattle.build.specs.Build.{Outcome}
 use Rattle.file.specs.Writer.{Wrote}
 use Rattle.file.specs.Reader as reader
 use Rattle.file.specs.declared.Opened.{Opened}
@@ -32,6 +33,11 @@ testOuts verdict = outs (numberOf verdict) (placeOf verdict) [] []
 -- order by degree: a verdict, and the order room
 unfoldable pub orderOuts : Ordered → Outs
 orderOuts o = outs (numberOf (o .verdict)) (placeOf (o .verdict)) [] (o .room ∷ [])
+
+-- the build: the number of entries, and labels, counts and the two work rooms
+unfoldable pub buildOuts : Outcome → Outs
+buildOuts o =
+    outs (o .number) (o .place) (o .entries ∷ []) (o .labels ∷ (o .counts ∷ (o .met ∷ (o .queue ∷ []))))
 
 -- the pair question: 1 and the joins, or 0 and 0 for none
 unfoldable pub pairOuts : pair.Told → Outs

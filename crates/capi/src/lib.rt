@@ -7,19 +7,12 @@ ghost use Rattle.links.specs.Order.{checkOrder, degreeOf};
 ghost use Rattle.rows.specs.Rooms.{checkRow};
 ghost use Rattle.rows.specs.Pair.{pairTold};
 ghost use Rattle.rows.specs.Spread.{spreadNumbers};
+ghost use Rattle.build.specs.Build.{buildOf};
 ghost use Rattle.file.specs.Writer.{writeOf};
 ghost use Rattle.file.specs.Reader.{headerOf, readOf};
-ghost use Rattle.capi.specs.Outs.{
-  outs,
-  testOuts,
-  orderOuts,
-  pairOuts,
-  rowOuts,
-  spreadOuts,
-  writeOuts,
-  headerOuts,
-  readOuts,
-};
+ghost use Rattle.capi.specs.Outs.{outs, testOuts, orderOuts, buildOuts, pairOuts, rowOuts, spreadOuts};
+ghost use Rattle.capi.specs.Outs.{writeOuts, headerOuts, readOuts};
+use build::Built;
 use file::Opened;
 use file::Written;
 use refusal::Verdict;
@@ -28,16 +21,16 @@ use rows::pair::Answer;
 use rows::spread::SpreadAnswer;
 
 // A verdict's number, and its place written out.
-fn told(verdict: Verdict, place: &mut u64) -> u32
-    ensures { λ r. ⌜ outs r (now (place .exit)) [] [] ≡ testOuts verdict ⌝ }
+fn told(verdict: Verdict, at: &mut u64) -> u32
+    ensures { λ r. ⌜ outs r (now (at .exit)) [] [] ≡ testOuts verdict ⌝ }
 {
     match verdict {
         Verdict::Fine => {
-            *place = 0;
+            *at = 0;
             0
         }
         Verdict::Refused(r) => {
-            *place = r.place as u64;
+            *at = r.place as u64;
             r.number
         }
     }
@@ -76,6 +69,43 @@ pub extern "C" fn seam_order_by_degree(
         ⌝ }
 {
     told(links::order_by_degree(n, starts, places, order), place)
+}
+
+// The build: `entries` is the number of entries; `met` and `queue` are the two work rooms.
+#[no_mangle]
+pub extern "C" fn seam_build(
+    n: usize,
+    w: usize,
+    k: usize,
+    starts: &[u32],
+    places: &[u32],
+    order: &[u32],
+    labels: &mut [Entry],
+    counts: &mut [u32],
+    met: &mut [u32],
+    queue: &mut [u32],
+    entries: &mut u64,
+    place: &mut u64,
+) -> u32
+    ensures { λ r. ⌜
+        outs r (now (place .exit)) (now (entries .exit) ∷ [])
+        (now (labels .exit) ∷ (now (counts .exit) ∷ (now (met .exit) ∷ (now (queue .exit) ∷ []))))
+        ≡ buildOuts
+        (buildOf n w k (now (starts .entry)) (now (places .entry)) (now (order .entry)) (now (labels .entry)) (now (counts .entry)) (now (met .entry)) (now (queue .entry)))
+        ⌝ }
+{
+    match build::build(n, w, k, starts, places, order, labels, counts, met, queue) {
+        Built::Entries(total) => {
+            *entries = total as u64;
+            *place = 0;
+            0
+        }
+        Built::Refused(r) => {
+            *entries = 0;
+            *place = r.place as u64;
+            r.number
+        }
+    }
 }
 
 // The pair question: `found` is 1 with the joins, 0 with 0 for none.

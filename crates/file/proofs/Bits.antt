@@ -111,6 +111,17 @@ pub field-lt : (s : List ℕ) (p w : ℕ) → fieldAt s p w < 2 ^ w
 unfolding fieldAt
 field-lt s p w = mod-lt (upTo s (p + w)) (pow-pos w)
 
+-- two fields of 12 bits, read as one
+pub pair-rank : (s : List ℕ) (p : ℕ) → p + 24 ≤ 8 * length s → fieldAt s p 24 / 4096 ≡ fieldAt s p 12
+unfolding fieldAt
+pair-rank s p h =
+    field (upTo s (p + 24)) 12 12
+    ∙ ap (λ (x : ℕ). x % 2 ^ 12) (sym (upTo-cut s (p + 12) 12 (omega arith) ∙ ap (λ (k : ℕ). upTo s k / 2 ^ 12) (omega arith)))
+
+pub pair-joins : (s : List ℕ) (p : ℕ) → fieldAt s p 24 % 4096 ≡ fieldAt s (p + 12) 12
+unfolding fieldAt
+pair-joins s p = mod-mod-pow (upTo s (p + 24)) 12 12 ∙ ap (λ (k : ℕ). upTo s k % 2 ^ 12) (omega arith)
+
 -- ---- fields put together
 
 pub num-append : (a : ℕ) (fs gs : List Field) → num a (fs ++ gs) ≡ num (num a fs) gs

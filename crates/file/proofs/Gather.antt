@@ -68,3 +68,28 @@ gather-done {s} {p} {w} {at} {sum} i g h =
     let f : sum ≡ upTo s (8 * end) % 2 ^ m = g .is ∙ ap (λ (k : ℕ). upTo s (8 * k) % 2 ^ (8 * (k - p / 8))) e in
     ap (λ (x : ℕ). x / 2 ^ (8 * end - (p + w)) % 2 ^ w) f
     ∙ gathered s end m p w (i .there) (omega arith) (omega arith)
+
+-- m bits and one byte more behind them
+more : (s : List ℕ) (i j m x : ℕ) → Bytes s → j ≡ i + 1 → i < length s → x ≡ upTo s (8 * i) % 2 ^ m
+    → x * 256 + getD s i 0 ≡ upTo s (8 * j) % 2 ^ (m + 8)
+more s i j m x b n h e =
+    ap (λ (y : ℕ). y * 256 + getD s i 0) e ∙ gather-step s i m b h ∙ ap (λ (k : ℕ). upTo s k % 2 ^ (m + 8)) (omega arith)
+
+-- 24 bits out of four bytes
+pub four-bytes : (s : List ℕ) (p : ℕ) → Bytes s → p / 8 + 4 ≤ length s
+    → (getD s (p / 8) 0 * 16777216 + getD s (p / 8 + 1) 0 * 65536 + getD s (p / 8 + 2) 0 * 256 + getD s (p / 8 + 3) 0)
+    / 2 ^ (8 - p % 8) % 16777216 ≡ fieldAt s p 24
+four-bytes s p b h =
+    let a : ℕ = p / 8 in
+    let x : ℕ = getD s a 0 * 16777216 + getD s (a + 1) 0 * 65536 + getD s (a + 2) 0 * 256 + getD s (a + 3) 0 in
+    let one : 0 * 256 + getD s a 0 ≡ upTo s (8 * (a + 1)) % 2 ^ 8 =
+    more s a (a + 1) 0 0 b (omega arith) (omega arith) (sym (mod-one (upTo s (8 * a)))) in
+    let two : (0 * 256 + getD s a 0) * 256 + getD s (a + 1) 0 ≡ upTo s (8 * (a + 2)) % 2 ^ 16 =
+    more s (a + 1) (a + 2) 8 _ b (omega arith) (omega arith) one in
+    let three : ((0 * 256 + getD s a 0) * 256 + getD s (a + 1) 0) * 256 + getD s (a + 2) 0 ≡ upTo s (8 * (a + 3)) % 2 ^ 24 =
+    more s (a + 2) (a + 3) 16 _ b (omega arith) (omega arith) two in
+    let four : (((0 * 256 + getD s a 0) * 256 + getD s (a + 1) 0) * 256 + getD s (a + 2) 0) * 256 + getD s (a + 3) 0
+    ≡ upTo s (8 * (a + 4)) % 2 ^ 32 = more s (a + 3) (a + 4) 24 _ b (omega arith) (omega arith) three in
+    let all : x ≡ upTo s (8 * (a + 4)) % 2 ^ 32 = omega arith in
+    let rest : 8 - p % 8 ≡ 8 * (a + 4) - (p + 24) = omega arith in
+    ap₂ (λ (y t : ℕ). y / 2 ^ t % 2 ^ 24) all rest ∙ gathered s (a + 4) 32 p 24 h (omega arith) (omega arith)

@@ -1,4 +1,5 @@
 pub mod Bits
+pub mod Byte
 pub mod Fields
 pub mod Fit
 pub mod Gather

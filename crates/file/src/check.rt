@@ -50,8 +50,8 @@ pub fn order(bytes: &[u8], n: usize) -> Verdict
     Verdict::Fine
 }
 
-// One entry at bit p: its rank, which is `low` or more, or the refusal.
-pub fn entry(bytes: &[u8], n: usize, k: usize, p: usize, low: usize) -> Step
+// One entry at bit p, field by field: its rank, which is `low` or more, or the refusal.
+pub fn entry_fields(bytes: &[u8], n: usize, k: usize, p: usize, low: usize) -> Step
     requires { ⌜ p < 1073741824 ⌝ }
     ensures { λ x. ⌜ x ≡ step (entryTest (now (bytes .entry)) n k p low) (fieldAt (now (bytes .entry)) p 12) ⌝ }
 {
@@ -74,6 +74,30 @@ pub fn entry(bytes: &[u8], n: usize, k: usize, p: usize, low: usize) -> Step
         return get::stop(refusal::FIELD, at);
     }
     Step::On(rank)
+}
+
+// The same, both fields at once where the bytes are there; what is not legal is found again field by field.
+pub fn entry(bytes: &[u8], n: usize, k: usize, p: usize, low: usize) -> Step
+    requires { ⌜ p < 1073741824 ⌝ }
+    ensures { λ x. ⌜ x ≡ step (entryTest (now (bytes .entry)) n k p low) (fieldAt (now (bytes .entry)) p 12) ⌝ }
+{
+    let end = p / 8 + 4;
+    if bytes.len() < end {
+        return entry_fields(bytes, n, k, p, low);
+    }
+    let both = get::four(bytes, p);
+    let found = both / widths::JOINS_VALUES;
+    let joins = both % widths::JOINS_VALUES;
+    if found < low {
+        return entry_fields(bytes, n, k, p, low);
+    }
+    if k <= found {
+        return entry_fields(bytes, n, k, p, low);
+    }
+    if n <= joins {
+        return entry_fields(bytes, n, k, p, low);
+    }
+    Step::On(found)
 }
 
 // The entries of a row, from bit p on.

@@ -1,10 +1,14 @@
-// Fields out of a byte string: a field is gathered byte by byte, at most three of them, and cut out of what was gathered.
+// Fields out of a byte string: a field is gathered byte by byte, at most three of them, and cut out of what was gathered;
+// the two fields of an entry are gathered at once.
 use crate::Opened;
+use crate::widths;
 use refusal::Refusal;
 use refusal::Verdict;
+ghost use Prim.Native.Nat.{_+_, _/_, _≤_, _<_};
 ghost use mathlib.Core.Path.{_≡_};
+ghost use lib.ListN.{length};
 ghost use Rattle.refusal.specs.Tests.{refusal};
-ghost use Rattle.file.specs.Bits.{fieldAt};
+ghost use Rattle.file.specs.Bits.{fieldAt, byteLen};
 ghost use Rattle.file.specs.Reader.{shortTest};
 ghost use Rattle.file.specs.Steps.{Near, Inside, step, verdictOf};
 
@@ -73,4 +77,34 @@ pub fn field(bytes: &[u8], p: usize, width: usize) -> Step
         return stop(refusal::SHORT, p);
     }
     Step::On(get(bytes, p, width))
+}
+
+// The 24 bits at bit p, where four bytes from its own on are there.
+pub fn four(bytes: &[u8], p: usize) -> usize
+    requires { ⌜ (p < 1073741824) × (p / 8 + 4 ≤ length (now bytes)) ⌝ }
+    ensures { λ r. ⌜ r ≡ fieldAt (now (bytes .entry)) p 24 ⌝ }
+{
+    let at = p / 8;
+    let first = bytes[at] as usize;
+    let second = bytes[at + 1] as usize;
+    let third = bytes[at + 2] as usize;
+    let fourth = bytes[at + 3] as usize;
+    let sum = first * 16777216 + second * 65536 + third * 256 + fourth;
+    let rest = 8 - p % 8;
+    let top = sum >> rest;
+    top % widths::ENTRY_VALUES
+}
+
+// The same wherever they are there.
+pub fn pair(bytes: &[u8], p: usize) -> usize
+    requires { ⌜ (p < 1073741824) × (byteLen (p + 24) ≤ length (now bytes)) ⌝ }
+    ensures { λ r. ⌜ r ≡ fieldAt (now (bytes .entry)) p 24 ⌝ }
+{
+    let end = p / 8 + 4;
+    if end <= bytes.len() {
+        return four(bytes, p);
+    }
+    let rank = get(bytes, p, widths::RANK_BITS);
+    let joins = get(bytes, p + widths::RANK_BITS, widths::JOINS_BITS);
+    rank * widths::JOINS_VALUES + joins
 }

@@ -16,7 +16,7 @@ pub struct Pen {
     pub nb: usize,
 }
 
-// Puts one field, byte by byte.
+// Puts one field, byte by byte: the number stays whole, and the bits that are no byte yet are cut off it at the end.
 pub fn put(out: &mut [u8], pen: Pen, value: usize, width: usize) -> Pen
     requires { ⌜ Ready (now out) pen (field value width ∷ []) × (width ≤ 16) ⌝ }
     ensures { λ r. ⌜ Put (now (out .entry)) pen (field value width ∷ []) (now (out .exit)) r ⌝ }
@@ -24,27 +24,42 @@ pub fn put(out: &mut [u8], pen: Pen, value: usize, width: usize) -> Pen
     let mut at = pen.at;
     let held = pen.acc;
     let waiting = pen.nb;
-    let mut acc = (held << width) + value;
+    let whole = (held << width) + value;
     let mut nb = waiting + width;
     while 8 <= nb {
         nb -= 8;
-        let top = acc >> nb;
-        out[at] = top as u8;
-        acc -= top << nb;
+        let byte = (whole >> nb) % 256;
+        out[at] = byte as u8;
         at += 1;
     }
+    let top = whole >> nb;
+    let acc = whole - (top << nb);
     Pen { at, acc, nb }
 }
 
-// Puts one entry: its rank, its joins.
+// Puts one entry, its rank and its joins, as one number: three bytes are then whole, and as many bits wait as before.
 pub fn put_entry(out: &mut [u8], pen: Pen, e: Entry) -> Pen
     requires { ⌜ Ready (now out) pen (entryFields (e ∷ [])) ⌝ }
     ensures { λ r. ⌜ Put (now (out .entry)) pen (entryFields (e ∷ [])) (now (out .exit)) r ⌝ }
 {
     let rank = entry::rank_of(e);
     let joins = entry::joins_of(e);
-    let ranked = put(out, pen, rank, widths::RANK_BITS);
-    put(out, ranked, joins, widths::JOINS_BITS)
+    let at = pen.at;
+    let held = pen.acc;
+    let nb = pen.nb;
+    let both = (rank << widths::JOINS_BITS) + joins;
+    let whole = (held << widths::ENTRY_BITS) + both;
+    let first = (whole >> (nb + 16)) % 256;
+    let second = (whole >> (nb + 8)) % 256;
+    let top = whole >> nb;
+    let third = top % 256;
+    out[at] = first as u8;
+    out[at + 1] = second as u8;
+    out[at + 2] = third as u8;
+    let high = both >> nb;
+    let acc = both - (high << nb);
+    let next = at + 3;
+    Pen { at: next, acc, nb }
 }
 
 // Puts the entries of a row.

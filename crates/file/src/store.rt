@@ -29,8 +29,9 @@ pub fn entry(bytes: &[u8], p: usize, labels: &mut [Entry], at: usize)
     requires { ⌜ (p < 1073741824) × (byteLen (p + 24) ≤ length (now bytes)) × (at < length (now labels)) ⌝ }
     ensures { λ _. ⌜ now (labels .exit) ≡ set (now (labels .entry)) at (entryAt (now (bytes .entry)) p) ⌝ }
 {
-    let rank = get::get(bytes, p, widths::RANK_BITS);
-    let joins = get::get(bytes, p + widths::RANK_BITS, widths::JOINS_BITS);
+    let both = get::pair(bytes, p);
+    let rank = both / widths::JOINS_VALUES;
+    let joins = both % widths::JOINS_VALUES;
     labels[at] = entry_of(rank, joins);
 }
 

@@ -24,3 +24,8 @@ pub const EACH_FRAME_BITS: usize = FRAME_BITS + COUNT_BITS;
 
 // What an entry takes.
 pub const ENTRY_BITS: usize = RANK_BITS + JOINS_BITS;
+
+// How many values the joins have, and an entry.
+pub const JOINS_VALUES: usize = 4096;
+
+pub const ENTRY_VALUES: usize = 16777216;

@@ -1,6 +1,17 @@
+pub mod Answers
+pub mod Built
+pub mod Contracts
+pub mod Demand
+pub mod EndToEnd
+pub mod Held
+pub mod NoSpare
+pub mod Rule
 pub mod Same
 pub mod SameBuild
+pub mod SameC
 pub mod SameFile
 pub mod SameLinks
+pub mod SameListing
 pub mod SameRows
 pub mod Starred
+pub mod Trips

@@ -1,7 +1,7 @@
 -- What "any two outcomes allowed are equal" says of a contract: the function's own postcondition, twice, from the same
 -- arguments. Nothing of a contract is repeated here.
 use Prim.Native.Nat.{ℕ}
-use mathlib.Core.Path.{_≡_}
+use mathlib.Core.Path.{_≡_, sym, ap, _∙_}
 use mathlib.Core.List.{List}
 use contract.Lifetimes.{Lfts}
 use borrow.Fn.Kinds.{PK, RK, Out, Dens, endedOf, resT}
@@ -18,3 +18,7 @@ Same m ps rk post agree =
 -- where nothing is lent to be written: the answer is the whole outcome
 abbrev pub SameAnswer : (m : ℕ) (ps : List (PK m)) (rk : RK m) → Out m ps rk → Type 0
 SameAnswer m ps rk post = Same m ps rk post (λ κs r₁ r₂ s₁ s₂. r₁ ≡ r₂)
+
+-- two things that equal a third look the same
+pub both {ℓ k} : {A : Type ℓ} {B : Type k} (f : A → B) {x y z : A} → x ≡ z → y ≡ z → f x ≡ f y
+both f p q = ap f (p ∙ sym q)

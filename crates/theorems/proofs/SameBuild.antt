@@ -1,11 +1,11 @@
 -- Any two outcomes allowed by the contract of `build` are equal: the answer, and the label room, the count room and the two
 -- work rooms, its seventh to tenth parameter.
-use mathlib.Core.Path.{_≡_, sym, ap, _∙_}
+use mathlib.Core.Path.{_≡_}
 use denote.Ref.{now}
 use Rattle.build.specs.Build.{Outcome}
 use Rattle.build.proofs.build.Kinds as build-kinds
 use Rattle.build.proofs.build.Reads as build-reads
-use Rattle.theorems.proofs.Same.{Same}
+use Rattle.theorems.proofs.Same.{Same, both}
 
 pub build-same : Same 7 build-kinds.ps build-kinds.r build-reads.Post
     (λ κs r₁ r₂ s₁ s₂. (r₁ ≡ r₂)
@@ -14,9 +14,9 @@ pub build-same : Same 7 build-kinds.ps build-kinds.r build-reads.Post
     × (now (s₁ .1 .1 .1 .1 .1 .1 .1 .1 .0) ≡ now (s₂ .1 .1 .1 .1 .1 .1 .1 .1 .0))
     × (now (s₁ .1 .1 .1 .1 .1 .1 .1 .1 .1 .0) ≡ now (s₂ .1 .1 .1 .1 .1 .1 .1 .1 .1 .0)))
 build-same κs a r₁ r₂ s₁ s₂ p q = (
-  ap (λ (o : Outcome). o .answer) (p ∙ sym q),
-  ap (λ (o : Outcome). o .labels) (p ∙ sym q),
-  ap (λ (o : Outcome). o .counts) (p ∙ sym q),
-  ap (λ (o : Outcome). o .met) (p ∙ sym q),
-  ap (λ (o : Outcome). o .queue) (p ∙ sym q),
+  both (λ (o : Outcome). o .answer) p q,
+  both (λ (o : Outcome). o .labels) p q,
+  both (λ (o : Outcome). o .counts) p q,
+  both (λ (o : Outcome). o .met) p q,
+  both (λ (o : Outcome). o .queue) p q,
 )

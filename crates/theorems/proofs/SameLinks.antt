@@ -1,5 +1,5 @@
 -- Any two outcomes allowed by a contract of `links` are equal.
-use mathlib.Core.Path.{_≡_, sym, ap, _∙_}
+use mathlib.Core.Path.{_≡_, sym, _∙_}
 use denote.Ref.{now}
 use Rattle.links.specs.Order.{Ordered}
 use Rattle.links.proofs.check_links.Kinds as check-links-kinds
@@ -8,7 +8,7 @@ use Rattle.links.proofs.check_order.Kinds as check-order-kinds
 use Rattle.links.proofs.check_order.Reads as check-order-reads
 use Rattle.links.proofs.order_by_degree.Kinds as order-by-degree-kinds
 use Rattle.links.proofs.order_by_degree.Reads as order-by-degree-reads
-use Rattle.theorems.proofs.Same.{Same, SameAnswer}
+use Rattle.theorems.proofs.Same.{Same, SameAnswer, both}
 
 pub check-links-same : SameAnswer 2 check-links-kinds.ps check-links-kinds.r check-links-reads.Post
 check-links-same κs a r₁ r₂ s₁ s₂ p q = p ∙ sym q
@@ -20,4 +20,4 @@ check-order-same κs a r₁ r₂ s₁ s₂ p q = p ∙ sym q
 pub order-by-degree-same : Same 3 order-by-degree-kinds.ps order-by-degree-kinds.r order-by-degree-reads.Post
     (λ κs r₁ r₂ s₁ s₂. (r₁ ≡ r₂) × (now (s₁ .1 .1 .1 .0) ≡ now (s₂ .1 .1 .1 .0)))
 order-by-degree-same κs a r₁ r₂ s₁ s₂ p q =
-    (ap (λ (o : Ordered). o .verdict) (p ∙ sym q), ap (λ (o : Ordered). o .room) (p ∙ sym q))
+    (both (λ (o : Ordered). o .verdict) p q, both (λ (o : Ordered). o .room) p q)

@@ -1,21 +1,94 @@
--- One entry: two fields, one after the other.
-use mathlib.Core.List.{[], _∷_}
+-- One entry: its two fields are one number of 24 bits, so three bytes are stored, and the bits that wait are its last ones.
+use Prim.Native.Nat.{ℕ, _+_, _-_, _*_, _/_, _%_, _^_, _<_}
+use mathlib.Core.Path.{_≡_, refl, sym, ap, _∙_}
+use mathlib.Core.List.{List, [], _∷_}
 use native.Mathlib.Omega.{arith}
+use native.Mathlib.Nat.{lt-of-lt-of-le}
 use borrow.Author.Needs.{needs}
-use denote.Ref.{now}
-use Rattle.file.specs.Bits.{field}
+use lib.ListN.{set}
+use lib.Pow.{pow-mono, low, mod-mod-pow}
+use Rattle.rows.specs.Entry.{rankOf, joinsOf}
+use Rattle.file.specs.declared.put.Pen.{Pen}
+use Rattle.file.specs.Bits.{Legal, bitLen, num}
 use Rattle.file.specs.Layout.{entryFields}
-use Rattle.file.proofs.Pen.{Left, left-start, next-ready, next-step, left-end}
+use Rattle.file.specs.Pen.{penBits, penNum, Ready, Put}
+use Rattle.file.proofs.Byte.{Stored, byte-room, byte-step, byte-none, byte-end}
+use Rattle.file.proofs.Gather.{cut, cut-le}
 use Rattle.file.proofs.put.put_entry.Statement.{statement}
 use Rattle.file.proofs.put.put_entry.Tie as tie
 
--- the two fields are still to be put
-begun : (c : tie.After-put-arg) →
-    let a = c .before .before .before .before .args in
-    Left (now (a .out)) (a .pen) (entryFields (a .e ∷ [])) (now (a .out)) (a .pen)
-    (field (c .before .before .rank-of .result) 12 ∷ field (c .before .joins-of .result) 12 ∷ [])
-unfolding entryFields
-begun c = rw (c .before .before .rank-of .ensures, c .before .joins-of .ensures) (left-start (c .before .before .before .before .pre))
+-- rank and joins as one number, and behind the bits held
+abbrev bothOf : ℕ → ℕ → ℕ
+bothOf rank joins = rank * 2 ^ 12 % 2 ^ 64 + joins
+
+abbrev wholeOf : ℕ → ℕ → ℕ → ℕ
+wholeOf acc rank joins = acc * 2 ^ 24 % 2 ^ 64 + bothOf rank joins
+
+-- the room with one byte, two, three
+abbrev first : List ℕ → Pen → ℕ → List ℕ
+first o p whole = set o (p .at) (whole / 2 ^ (p .nb + 16) % 256)
+
+abbrev second : List ℕ → Pen → ℕ → List ℕ
+second o p whole = set (first o p whole) (p .at + 1) (whole / 2 ^ (p .nb + 8) % 256)
+
+abbrev third : List ℕ → Pen → ℕ → List ℕ
+third o p whole = set (second o p whole) (p .at + 2) (whole / 2 ^ p .nb % 256)
+
+len : (e : ℕ) → bitLen (entryFields (e ∷ [])) ≡ 24
+unfolding bitLen entryFields
+len e = refl
+
+module _ (e : ℕ) {o : List ℕ} {p : Pen} {rank joins : ℕ} (r : Ready o p (entryFields (e ∷ []))) (k : rank ≡ rankOf e) (d : joins ≡ joinsOf e) where
+  rank-lt : rank < 4096
+  unfolding Legal entryFields
+  rank-lt = omega (arith, r .legal .0)
+
+  joins-lt : joins < 4096
+  unfolding Legal entryFields
+  joins-lt = omega (arith, r .legal .1 .0)
+
+  held-lt : p .acc < 128
+  held-lt = lt-of-lt-of-le (r .below) (pow-mono {i = p .nb} {j = 7} (omega (arith, r .small)))
+
+  both-lt : bothOf rank joins < 2 ^ 24
+  both-lt = omega (arith, rank-lt, joins-lt)
+
+  whole-fits : wholeOf (p .acc) rank joins < 2 ^ 64
+  whole-fits = omega (arith, both-lt, held-lt)
+
+  both-is : bothOf rank joins ≡ num 0 (entryFields (e ∷ []))
+  unfolding num entryFields
+  both-is = omega (arith, rank-lt, k, d)
+
+  whole-is : wholeOf (p .acc) rank joins ≡ p .acc * 2 ^ 24 + bothOf rank joins
+  whole-is = omega (arith, held-lt)
+
+  none : Stored o (num (penNum o p) (entryFields (e ∷ []))) (penBits p + 24) (wholeOf (p .acc) rank joins) o (p .at) (p .nb + 24)
+  none = byte-none r 24 (len e) (whole-is ∙ ap (λ (y : ℕ). p .acc * 2 ^ 24 + y) both-is)
+
+  one : Stored o (num (penNum o p) (entryFields (e ∷ []))) (penBits p + 24) (wholeOf (p .acc) rank joins)
+      (first o p (wholeOf (p .acc) rank joins)) (p .at + 1) (p .nb + 16)
+  one = byte-step none (p .nb + 16) (omega arith) _ refl
+
+  two : Stored o (num (penNum o p) (entryFields (e ∷ []))) (penBits p + 24) (wholeOf (p .acc) rank joins)
+      (second o p (wholeOf (p .acc) rank joins)) (p .at + 2) (p .nb + 8)
+  two = byte-step one (p .nb + 8) (omega arith) (p .at + 2) (omega arith)
+
+  three : Stored o (num (penNum o p) (entryFields (e ∷ []))) (penBits p + 24) (wholeOf (p .acc) rank joins)
+      (third o p (wholeOf (p .acc) rank joins)) (p .at + 3) (p .nb)
+  three = byte-step two (p .nb) (omega arith) (p .at + 3) (omega arith)
+
+  -- the last bits are those of the entry alone
+  last : bothOf rank joins % 2 ^ p .nb ≡ wholeOf (p .acc) rank joins % 2 ^ p .nb
+  last =
+      let y : ℕ = p .acc * 2 ^ 24 + bothOf rank joins in
+      let wide : 24 ≡ 24 - p .nb + p .nb = omega (arith, r .small) in
+      sym (ap (λ (x : ℕ). x % 2 ^ p .nb) whole-is ∙ sym (mod-mod-pow y (24 - p .nb) (p .nb))
+      ∙ ap (λ (j : ℕ). y % 2 ^ j % 2 ^ p .nb) (sym wide) ∙ ap (λ (x : ℕ). x % 2 ^ p .nb) (low (p .acc) 24 both-lt))
+
+  put-all : Put o p (entryFields (e ∷ [])) (third o p (wholeOf (p .acc) rank joins))
+      (record { at = p .at + 3; acc = bothOf rank joins - bothOf rank joins / 2 ^ p .nb * 2 ^ p .nb % 2 ^ 64; nb = p .nb })
+  put-all = byte-end r 24 (len e) three (r .small) (cut (bothOf rank joins) (p .nb) (omega (arith, both-lt)) ∙ last)
 
 rank-of-requires : tie.Need-rank-of-requires
 rank-of-requires c κs = search needs
@@ -23,21 +96,101 @@ rank-of-requires c κs = search needs
 joins-of-requires : tie.Need-joins-of-requires
 joins-of-requires c κs = search needs
 
-put-requires : tie.Need-put-requires
-put-requires c κs = (next-ready (begun c), omega arith)
+add-both : tie.Need-add-both
+add-both c = let b = both-lt _ (c .before .before .before .pre) (c .before .rank-of .ensures) (c .joins-of .ensures) in omega arith
 
-put-requires-2 : tie.Need-put-requires-2
-put-requires-2 c κs = (next-ready (next-step (begun (c .before .before .before .before)) (c .before .before .before .put .ensures)), omega arith)
+add-whole : tie.Need-add-whole
+add-whole c = record { fits = whole-fits _ (c .before .before .before .pre) (c .before .rank-of .ensures) (c .joins-of .ensures) }
+
+add-first : tie.Need-add-first
+add-first c = search needs
+
+shr-first : tie.Need-shr-first
+shr-first c = search needs
+
+add-second : tie.Need-add-second
+add-second c = search needs
+
+shr-second : tie.Need-shr-second
+shr-second c = search needs
+
+shr-top : tie.Need-shr-top
+shr-top c = search needs
+
+cast-out : tie.Need-cast-out
+cast-out c = search needs
+
+slice-write-out : tie.Need-slice-write-out
+slice-write-out c =
+    byte-room (none _ (c .before .before .before .pre) (c .before .rank-of .ensures) (c .joins-of .ensures))
+    (c .before .before .before .args .pen .nb + 16) (omega arith)
+
+cast-out-2 : tie.Need-cast-out-2
+cast-out-2 c = search needs
+
+add-out : tie.Need-add-out
+add-out c = search needs
+
+slice-write-out-2 : tie.Need-slice-write-out-2
+slice-write-out-2 c =
+    byte-room (one _ (c .before .before .before .pre) (c .before .rank-of .ensures) (c .joins-of .ensures))
+    (c .before .before .before .args .pen .nb + 8) (omega arith)
+
+cast-out-3 : tie.Need-cast-out-3
+cast-out-3 c = search needs
+
+add-out-2 : tie.Need-add-out-2
+add-out-2 c = search needs
+
+slice-write-out-3 : tie.Need-slice-write-out-3
+slice-write-out-3 c =
+    byte-room (two _ (c .before .before .before .pre) (c .before .rank-of .ensures) (c .joins-of .ensures))
+    (c .before .before .before .args .pen .nb) (omega arith)
+
+shr-high : tie.Need-shr-high
+shr-high c = search needs
+
+shl-acc : tie.Need-shl-acc
+shl-acc c = search needs
+
+sub-acc : tie.Need-sub-acc
+sub-acc c =
+    let b = both-lt _ (c .before .before .before .pre) (c .before .rank-of .ensures) (c .joins-of .ensures) in
+    cut-le (bothOf (c .before .rank-of .result) (c .joins-of .result)) (c .before .before .before .args .pen .nb) (omega arith)
+
+add-next : tie.Need-add-next
+add-next c = search needs
 
 same-length : tie.Need-same-length
 same-length c = search needs
 
 returns : tie.Need-returns
-returns c =
-    let b = c .before .before .before .before .before .before .before in
-    left-end (next-step (next-step (begun b) (c .before .before .before .before .before .before .put .ensures)) (c .before .before .put2 .ensures))
+returns c = put-all _ (c .before .before .before .pre) (c .before .rank-of .ensures) (c .joins-of .ensures)
 
 pub put-entry-spec : {M : Type 1} → statement M
 put-entry-spec =
     tie.close
-    (tie.spec rank-of-requires joins-of-requires put-requires put-requires-2 same-length returns)
+    (tie.spec
+    rank-of-requires
+    joins-of-requires
+    add-both
+    add-whole
+    add-first
+    shr-first
+    add-second
+    shr-second
+    shr-top
+    cast-out
+    slice-write-out
+    cast-out-2
+    add-out
+    slice-write-out-2
+    cast-out-3
+    add-out-2
+    slice-write-out-3
+    shr-high
+    shl-acc
+    sub-acc
+    add-next
+    same-length
+    returns)

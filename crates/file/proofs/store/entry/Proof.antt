@@ -1,26 +1,18 @@
 -- `entry` stores what the entry's layout makes of the two fields.
-use mathlib.Core.Path.{ap, _∙_}
+use Prim.Native.Nat.{ℕ, _/_, _%_}
+use mathlib.Core.Path.{ap, ap₂, _∙_}
 use native.Mathlib.Omega.{arith}
-use lib.ListN.{set}
 use borrow.Author.Needs.{needs}
-use mathlib.Core.Path.{ap₂}
+use lib.ListN.{set}
 use Rattle.rows.specs.Entry.{entryOf}
 use Rattle.file.specs.Bits.{byteLen}
 use Rattle.file.specs.Reader.{entryAt}
+use Rattle.file.proofs.Bits.{pair-rank, pair-joins}
 use Rattle.file.proofs.store.entry.Statement.{statement}
 use Rattle.file.proofs.store.entry.Tie as tie
 
-get-requires : tie.Need-get-requires
-unfolding byteLen
-get-requires c κs = record { narrow = omega arith; near = omega arith; there = omega (arith, c .before .before .pre .1) }
-
-add-get : tie.Need-add-get
-add-get c = search needs
-
-get-requires-2 : tie.Need-get-requires-2
-unfolding byteLen
-get-requires-2 c κs =
-    record { narrow = omega arith; near = omega arith; there = omega (arith, c .before .before .before .pre .1) }
+pair-requires : tie.Need-pair-requires
+pair-requires c κs = search needs
 
 entry-of-requires : tie.Need-entry-of-requires
 entry-of-requires c κs = search needs
@@ -35,21 +27,16 @@ same-length : tie.Need-same-length
 same-length c = search needs
 
 returns : tie.Need-returns
-unfolding entryAt
+unfolding entryAt byteLen
 returns c =
-    ap (set (c .before .before .before .before .before .args .labels .now)
-    (c .before .before .before .before .before .args .at))
-    (c .entry-of .ensures ∙ ap₂ entryOf (c .before .before .get .ensures) (c .before .get2 .ensures))
+    let a = c .before .before .before .before .args in
+    let p = c .before .pair .ensures in
+    ap (set (a .labels .now) (a .at))
+    (c .entry-of .ensures
+    ∙ ap₂ entryOf (ap (λ (x : ℕ). x / 4096) p ∙ pair-rank _ (a .p) (omega (arith, c .before .before .before .before .pre .1)))
+    (ap (λ (x : ℕ). x % 4096) p ∙ pair-joins _ (a .p)))
 
 pub entry-spec : {M : Type 1} → statement M
 entry-spec =
     tie.close
-    (tie.spec
-    get-requires
-    add-get
-    get-requires-2
-    entry-of-requires
-    mul-labels
-    slice-write-labels
-    same-length
-    returns)
+    (tie.spec pair-requires entry-of-requires mul-labels slice-write-labels same-length returns)

@@ -1,0 +1,253 @@
+/* Times the proved library through its C interface beside the same method in plain C and plain Rust, in one run, interleaved, and
+ * prints a table of ratios: library time over baseline time, medians of paired runs. Below 1 the library is the faster one.
+ * Every result is compared, so a wrong baseline is noticed. */
+#include "../crates/capi/seam.h"
+#include "baseline.h"
+#include <math.h>
+#include <stdio.h>
+#include <stdlib.h>
+#include <string.h>
+#include <time.h>
+
+#define N 4096
+#define W 256
+#define ROUNDS 15
+
+static uint32_t starts[N + 1], places[65536], order[N], order_b[N];
+static uint32_t labels[3][N * W], counts[3][N], met[N], queue[N], order_r[N];
+static uint8_t file[2][4 + 3 * N + 3 * N * W + N * 2];
+static uint32_t ask_s[20000], ask_t[20000];
+static size_t n_places;
+static uint64_t seed = 0x2545F4914F6CDD1DULL;
+
+static uint64_t dice(void) {
+    seed ^= seed << 13;
+    seed ^= seed >> 7;
+    seed ^= seed << 17;
+    return seed;
+}
+
+static double now(void) {
+    struct timespec t;
+    clock_gettime(CLOCK_MONOTONIC, &t);
+    return t.tv_sec + t.tv_nsec * 1e-9;
+}
+
+static int by_value(const void *a, const void *b) {
+    double x = *(const double *)a, y = *(const double *)b;
+    return (x > y) - (x < y);
+}
+
+static double median(double *x, int n) {
+    qsort(x, n, sizeof *x, by_value);
+    return n % 2 ? x[n / 2] : (x[n / 2 - 1] + x[n / 2]) / 2;
+}
+
+static void must(int ok, const char *what) {
+    if (!ok) {
+        fprintf(stderr, "bench: %s\n", what);
+        exit(1);
+    }
+}
+
+/* ---- blocks, as pairs */
+
+static uint32_t pair_a[65536], pair_b[65536];
+static size_t n_pairs;
+
+static int by_pair(const void *x, const void *y) {
+    uint64_t a = *(const uint64_t *)x, b = *(const uint64_t *)y;
+    return (a > b) - (a < b);
+}
+
+static void lay(void) {
+    static uint64_t arcs[2 * 65536];
+    size_t m = 0;
+    for (size_t i = 0; i < n_pairs; i++) {
+        if (pair_a[i] == pair_b[i]) continue;
+        arcs[m++] = (uint64_t)pair_a[i] << 32 | pair_b[i];
+        arcs[m++] = (uint64_t)pair_b[i] << 32 | pair_a[i];
+    }
+    qsort(arcs, m, sizeof *arcs, by_pair);
+    n_places = 0;
+    memset(starts, 0, sizeof starts);
+    for (size_t i = 0; i < m; i++) {
+        if (i && arcs[i] == arcs[i - 1]) continue;
+        must(n_places < 65536, "too many links");
+        places[n_places++] = (uint32_t)arcs[i];
+        starts[(arcs[i] >> 32) + 1]++;
+    }
+    for (size_t v = 0; v < N; v++) starts[v + 1] += starts[v];
+}
+
+static void join(uint32_t a, uint32_t b) {
+    pair_a[n_pairs] = a;
+    pair_b[n_pairs++] = b;
+}
+
+static void grid(void) {
+    n_pairs = 0;
+    for (uint32_t y = 0; y < 64; y++)
+        for (uint32_t x = 0; x < 64; x++) {
+            if (x + 1 < 64) join(64 * y + x, 64 * y + x + 1);
+            if (y + 1 < 64) join(64 * y + x, 64 * y + x + 64);
+        }
+    lay();
+}
+
+/* Points in a unit square, joined where close, for a mean degree of just under 10. */
+static void geometric(void) {
+    static double x[N], y[N];
+    for (int v = 0; v < N; v++) {
+        x[v] = (double)(dice() >> 11) / 9007199254740992.0;
+        y[v] = (double)(dice() >> 11) / 9007199254740992.0;
+    }
+    double reach = 10.0 / (N * 3.14159265358979);
+    n_pairs = 0;
+    for (uint32_t a = 0; a < N; a++)
+        for (uint32_t b = a + 1; b < N; b++)
+            if ((x[a] - x[b]) * (x[a] - x[b]) + (y[a] - y[b]) * (y[a] - y[b]) < reach) join(a, b);
+    lay();
+}
+
+/* Each frame joins four earlier ones, drawn from the ends of earlier joins. */
+static void scale_free(void) {
+    n_pairs = 0;
+    join(0, 1);
+    for (uint32_t v = 2; v < N; v++)
+        for (int j = 0; j < 4; j++) {
+            size_t at = dice() % (2 * n_pairs);
+            uint32_t u = at % 2 ? pair_a[at / 2] : pair_b[at / 2];
+            if (u != v) join(v, u);
+        }
+    lay();
+}
+
+static void shuffled(void) {
+    for (uint32_t v = 0; v < N; v++) order[v] = v;
+    for (size_t i = N - 1; i > 0; i--) {
+        size_t j = dice() % (i + 1);
+        uint32_t t = order[i];
+        order[i] = order[j];
+        order[j] = t;
+    }
+}
+
+/* A breadth-first search that stops at t. */
+static long search(uint32_t s, uint32_t t) {
+    static uint32_t d[N], q[N];
+    static uint32_t mark[N], turn = 0;
+    turn++;
+    size_t head = 0, tail = 1;
+    q[0] = s;
+    d[s] = 0;
+    mark[s] = turn;
+    while (head < tail) {
+        uint32_t u = q[head++];
+        if (u == t) return d[u];
+        for (uint32_t i = starts[u]; i < starts[u + 1]; i++)
+            if (mark[places[i]] != turn) {
+                mark[places[i]] = turn;
+                d[places[i]] = d[u] + 1;
+                q[tail++] = places[i];
+            }
+    }
+    return -1;
+}
+
+/* ---- timing */
+
+static double seam_t[ROUNDS], c_t[ROUNDS], r_t[ROUNDS];
+
+#define ROW_OF(name, repeat, lib, cc, rr)                                                        \
+    do {                                                                                         \
+        for (int round_ = 0; round_ < ROUNDS; round_++) {                                        \
+            double t0 = now();                                                                   \
+            for (int i_ = 0; i_ < (repeat); i_++) { lib; }                                       \
+            double t1 = now();                                                                   \
+            for (int i_ = 0; i_ < (repeat); i_++) { cc; }                                        \
+            double t2 = now();                                                                   \
+            for (int i_ = 0; i_ < (repeat); i_++) { rr; }                                        \
+            double t3 = now();                                                                   \
+            seam_t[round_] = (t1 - t0) / (repeat);                                               \
+            c_t[round_] = (t1 - t0) / (t2 - t1);                                                 \
+            r_t[round_] = (t1 - t0) / (t3 - t2);                                                 \
+        }                                                                                        \
+        printf("| %s | %s | %.3g µs | %.2f | %.2f |\n", block, name, median(seam_t, ROUNDS) * 1e6, \
+               median(c_t, ROUNDS), median(r_t, ROUNDS));                                        \
+    } while (0)
+
+static double search_ratio;
+static const char *search_block;
+
+static void run(const char *block) {
+    uint64_t place, e[3], n, k, bytes, sp;
+    uint32_t found[3];
+    uint64_t joins[3], sum[3];
+    must(seam_order_by_degree(N, starts, N + 1, places, n_places, order_b, N, &place) == 0, "order by degree");
+    ROW_OF("order by degree", 20, seam_order_by_degree(N, starts, N + 1, places, n_places, order_b, N, &place),
+           c_order_by_degree(N, starts, N + 1, places, n_places, order_b, N),
+           r_order_by_degree(N, starts, N + 1, places, n_places, order_b, N));
+    uint32_t bad[3];
+    ROW_OF("build", 1,
+           bad[0] = seam_build(N, W, N, starts, N + 1, places, n_places, order, N, labels[0], N * W, counts[0], N, met, N, queue, N,
+                               &e[0], &place),
+           bad[1] = c_build(N, W, N, starts, N + 1, places, n_places, order, N, labels[1], N * W, counts[1], N, met, N, queue, N, &e[1]),
+           bad[2] = r_build(N, W, N, starts, N + 1, places, n_places, order, N, labels[2], N * W, counts[2], N, met, N, queue, N, &e[2]));
+    if (bad[0]) fprintf(stderr, "%s: refused %u at %lu\n", block, bad[0], (unsigned long)place);
+    must(bad[0] == 0 && bad[1] == 0 && bad[2] == 0 && e[0] == e[1] && e[1] == e[2], "build");
+    must(!memcmp(labels[0], labels[1], sizeof labels[0]) && !memcmp(labels[1], labels[2], sizeof labels[0]), "rows differ");
+    for (int i = 0; i < 20000; i++) {
+        ask_s[i] = dice() % N;
+        ask_t[i] = dice() % N;
+    }
+    memset(sum, 0, sizeof sum);
+#define ASK(x, call) for (int i = 0; i < 20000; i++) { call; sum[x] += found[x] + joins[x]; }
+    ROW_OF("pair (20,000)", 1,
+           ASK(0, seam_pair(N, W, labels[0], N * W, counts[0], N, ask_s[i], ask_t[i], &found[0], &joins[0], &place)),
+           ASK(1, c_pair(N, W, labels[0], N * W, counts[0], N, ask_s[i], ask_t[i], &found[1], &joins[1])),
+           ASK(2, r_pair(N, W, labels[0], N * W, counts[0], N, ask_s[i], ask_t[i], &found[2], &joins[2])));
+    must(sum[0] == sum[1] && sum[1] == sum[2], "answers differ");
+    double t0 = now();
+    long apart = 0;
+    for (int i = 0; i < 400; i++) apart += search(ask_s[i], ask_t[i]);
+    double per_search = (now() - t0) / 400, per_pair = median(seam_t, ROUNDS) / 20000;
+    for (int i = 0; i < 400; i++) {
+        must(seam_pair(N, W, labels[0], N * W, counts[0], N, ask_s[i], ask_t[i], &found[0], &joins[0], &place) == 0, "pair");
+        must(search(ask_s[i], ask_t[i]) == (found[0] ? (long)joins[0] : -1), "an answer is not the search's");
+    }
+    if (per_search / per_pair < search_ratio || !search_block) {
+        search_ratio = per_search / per_pair;
+        search_block = block;
+    }
+    printf("| %s | pair beside a search (%ld joins) | %.3g µs | %.0f times as fast | |\n", block, apart, per_pair * 1e6,
+           per_search / per_pair);
+    ROW_OF("spread", 20, seam_spread(N, W, labels[0], N * W, counts[0], N, &sp, &place),
+           c_spread(N, W, labels[0], N * W, counts[0], N, &sp), r_spread(N, W, labels[0], N * W, counts[0], N, &sp));
+    ROW_OF("write", 5,
+           bad[0] = seam_write(N, W, N, order, N, labels[0], N * W, counts[0], N, file[0], sizeof file[0], 0, &bytes, &place),
+           bad[1] = c_write(N, W, N, order, N, labels[0], N * W, counts[0], N, file[1], sizeof file[1], 0, &bytes),
+           bad[2] = r_write(N, W, N, order, N, labels[0], N * W, counts[0], N, file[1], sizeof file[1], 0, &bytes));
+    must(!bad[0] && !bad[1] && !bad[2] && !memcmp(file[0], file[1], bytes), "files differ");
+    ROW_OF("read", 5,
+           bad[0] = seam_read(file[0], bytes, W, order_r, N, labels[0], N * W, counts[0], N, &n, &k, &place),
+           bad[1] = c_read(file[0], bytes, W, order_r, N, labels[1], N * W, counts[1], N, &n, &k),
+           bad[2] = r_read(file[0], bytes, W, order_r, N, labels[2], N * W, counts[2], N, &n, &k));
+    must(!bad[0] && !bad[1] && !bad[2] && !memcmp(labels[0], labels[1], sizeof labels[0]), "reads differ");
+}
+
+int main(void) {
+    uint64_t place;
+    printf("| block | call | library | beside C | beside Rust |\n|---|---|---|---|---|\n");
+    grid();
+    shuffled();
+    run("64 x 64 grid, shuffled order");
+    geometric();
+    must(seam_order_by_degree(N, starts, N + 1, places, n_places, order, N, &place) == 0, "order");
+    run("geometric, order by degree");
+    scale_free();
+    must(seam_order_by_degree(N, starts, N + 1, places, n_places, order, N, &place) == 0, "order");
+    run("scale-free, order by degree");
+    printf("\nA pair question is at least %.0f times as fast as a search (%s).\n", search_ratio, search_block);
+    return 0;
+}

@@ -1,0 +1,505 @@
+// Thousands of blocks, sound and damaged, against the model; guard words around every room.
+
+mod model;
+
+use seam::{Links, Refusal, Rows};
+
+// xorshift: the same blocks in every run.
+struct Dice(u64);
+
+impl Dice {
+    fn next(&mut self) -> u64 {
+        self.0 ^= self.0 << 13;
+        self.0 ^= self.0 >> 7;
+        self.0 ^= self.0 << 17;
+        self.0
+    }
+
+    fn below(&mut self, n: usize) -> usize {
+        (self.next() % n as u64) as usize
+    }
+
+    fn one_in(&mut self, n: usize) -> bool {
+        self.below(n) == 0
+    }
+
+    fn odd_number(&mut self, n: usize) -> u32 {
+        match self.below(6) {
+            0 => u32::MAX,
+            1 => 0,
+            2 => n as u32,
+            3 => 65_536,
+            4 => self.below(2 * n + 2) as u32,
+            _ => self.next() as u32,
+        }
+    }
+
+    fn shuffled(&mut self, n: usize) -> Vec<u32> {
+        let mut o: Vec<u32> = (0..n as u32).collect();
+        for i in (1..n).rev() {
+            o.swap(i, self.below(i + 1));
+        }
+        o
+    }
+}
+
+struct Block {
+    n: usize,
+    starts: Vec<u32>,
+    places: Vec<u32>,
+}
+
+impl Block {
+    fn of(n: usize, pairs: &[(usize, usize)]) -> Block {
+        let mut lists = vec![vec![]; n];
+        for &(a, b) in pairs {
+            if a != b {
+                lists[a].push(b as u32);
+                lists[b].push(a as u32);
+            }
+        }
+        let mut starts = vec![0];
+        let mut places = vec![];
+        for l in &mut lists {
+            l.sort_unstable();
+            l.dedup();
+            places.extend_from_slice(l);
+            starts.push(places.len() as u32);
+        }
+        Block { n, starts, places }
+    }
+
+    // Sparse, dense, chains, grids, rings, some in several pieces.
+    fn random(dice: &mut Dice) -> Block {
+        let n = 1 + dice.below(40);
+        let mut pairs = vec![];
+        match dice.below(5) {
+            0 => (0..n).for_each(|_| pairs.push((dice.below(n), dice.below(n)))),
+            1 => (0..3 * n).for_each(|_| pairs.push((dice.below(n), dice.below(n)))),
+            2 => (1..n).for_each(|v| pairs.push((v - 1, v))),
+            3 => {
+                (1..n).for_each(|v| pairs.push((v - 1, v)));
+                pairs.push((n - 1, 0));
+            }
+            _ => {
+                for v in 0..n {
+                    if v % 6 != 5 && v + 1 < n {
+                        pairs.push((v, v + 1));
+                    }
+                    if v + 6 < n {
+                        pairs.push((v, v + 6));
+                    }
+                }
+            }
+        }
+        Block::of(n, &pairs)
+    }
+
+    fn links(&self) -> Links<'_> {
+        Links { starts: &self.starts, places: &self.places }
+    }
+
+    fn damage(&mut self, dice: &mut Dice) {
+        match dice.below(6) {
+            0 if !self.places.is_empty() => {
+                let at = dice.below(self.places.len());
+                self.places[at] = dice.odd_number(self.n);
+            }
+            1 => {
+                let at = dice.below(self.starts.len());
+                self.starts[at] = dice.odd_number(self.places.len() + 1);
+            }
+            2 if self.places.len() > 1 => {
+                let (a, b) = (dice.below(self.places.len()), dice.below(self.places.len()));
+                self.places.swap(a, b);
+            }
+            3 => {
+                self.places.pop();
+            }
+            4 => {
+                self.starts.pop();
+            }
+            _ => self.n = [0, self.n + 1, 4097, usize::MAX][dice.below(4)],
+        }
+    }
+}
+
+const GUARD: u32 = 0xA5A5_5A5A;
+
+// A room with guard words on both sides.
+struct Guarded {
+    all: Vec<u32>,
+    len: usize,
+}
+
+impl Guarded {
+    fn of(content: &[u32]) -> Guarded {
+        let mut all = vec![GUARD; 4];
+        all.extend_from_slice(content);
+        all.extend_from_slice(&[GUARD; 4]);
+        Guarded { all, len: content.len() }
+    }
+
+    fn dirty(dice: &mut Dice, len: usize) -> Guarded {
+        let content: Vec<u32> = (0..len).map(|_| dice.next() as u32).collect();
+        Guarded::of(&content)
+    }
+
+    fn room(&mut self) -> &mut [u32] {
+        &mut self.all[4..4 + self.len]
+    }
+
+    fn now(&self) -> &[u32] {
+        assert!(self.all[..4].iter().chain(&self.all[4 + self.len..]).all(|&x| x == GUARD), "a guard word was overwritten");
+        &self.all[4..4 + self.len]
+    }
+}
+
+fn off_by_one(dice: &mut Dice, len: usize) -> usize {
+    match dice.below(40) {
+        0 => len + 1,
+        1 => len.saturating_sub(1),
+        _ => len,
+    }
+}
+
+#[test]
+fn links_and_orders() {
+    let mut dice = Dice(0x9E37_79B9_7F4A_7C15);
+    let mut refused = 0;
+    for _ in 0..6000 {
+        let mut block = Block::random(&mut dice);
+        let mut order = dice.shuffled(block.n);
+        if dice.one_in(2) {
+            block.damage(&mut dice);
+        }
+        if dice.one_in(3) {
+            let at = dice.below(order.len());
+            order[at] = dice.odd_number(order.len());
+        }
+        let verdict = model::check_links(block.n, &block.starts, &block.places);
+        refused += verdict.is_err() as u32;
+        assert_eq!(seam::check_links(block.n, block.links()), verdict);
+        assert_eq!(seam::check_order(block.n, &order), model::check_order(block.n, &order));
+
+        let len = off_by_one(&mut dice, block.n.min(64));
+        let mut room = Guarded::dirty(&mut dice, len);
+        let before = room.now().to_vec();
+        let expected = model::order_by_degree(block.n, &block.starts, &block.places, len);
+        let got = seam::order_by_degree(block.n, block.links(), room.room());
+        assert_eq!(got, expected.as_ref().map(|_| ()).map_err(|r| *r));
+        assert_eq!(room.now(), expected.unwrap_or(before));
+    }
+    assert!(refused > 1000);
+}
+
+#[test]
+fn builds_questions_files() {
+    let mut dice = Dice(0x1234_5678_9ABC_DEF1);
+    let (mut built, mut full) = (0, 0);
+    for _ in 0..8000 {
+        let mut block = Block::random(&mut dice);
+        let n = block.n;
+        let mut order = dice.shuffled(n);
+        let w = if dice.one_in(3) { 1 + dice.below(3) } else { 1 + dice.below(48) };
+        let k = dice.below(n + 1);
+        let (mut n_asked, mut w_asked, mut k_asked) = (n, w, k);
+        match dice.below(14) {
+            0 => {
+                block.damage(&mut dice);
+                n_asked = block.n;
+            }
+            1 => {
+                let at = dice.below(n);
+                order[at] = dice.odd_number(n);
+            }
+            2 => n_asked = [0, n + 1, 4097, usize::MAX][dice.below(4)],
+            3 => w_asked = [0, 257, usize::MAX][dice.below(3)],
+            4 => k_asked = [n + 1, usize::MAX][dice.below(2)],
+            _ => {}
+        }
+        let lens: Vec<usize> = [n * w, n, n, n].iter().map(|&l| off_by_one(&mut dice, l)).collect();
+        let mut rooms: Vec<Guarded> = lens.iter().map(|&l| Guarded::dirty(&mut dice, l)).collect();
+        let before: Vec<Vec<u32>> = rooms.iter().map(|r| r.now().to_vec()).collect();
+
+        let tests = model::sizes(n_asked, Some(w_asked), Some(k_asked), Some(block.places.len()))
+            .and_then(|_| {
+                model::lengths(&[
+                    (block.starts.len(), n_asked + 1), (order.len(), n_asked), (lens[0], n_asked * w_asked), (lens[1], n_asked),
+                    (lens[2], n_asked), (lens[3], n_asked),
+                ])
+            })
+            .and_then(|_| model::starts(n_asked, &block.starts, &block.places))
+            .and_then(|_| model::links(n_asked, &block.starts, &block.places))
+            .and_then(|_| model::order(n_asked, &order));
+        let expected = tests.and_then(|_| model::build(n, w, k, &block.starts, &block.places, &order).map(Some));
+
+        let [labels, counts, a, b] = &mut rooms[..] else { unreachable!() };
+        let got = seam::build(
+            n_asked, w_asked, k_asked, block.links(), &order, labels.room(), counts.room(), (a.room(), b.room()),
+        );
+        match expected {
+            Ok(Some(index)) => {
+                built += 1;
+                assert_eq!(got, Ok(index.entries));
+                assert_eq!(rooms[0].now(), index.labels);
+                assert_eq!(rooms[1].now(), index.counts);
+                assert!(rooms[2..].iter().all(|r| r.now().iter().all(|&x| x == 0)));
+                questions(&mut dice, &block, w, k, &order, &index);
+            }
+            Ok(None) => unreachable!(),
+            Err(refusal) => {
+                assert_eq!(got, Err(refusal));
+                if let Refusal::Room(_) = refusal {
+                    full += 1;
+                    assert!(rooms.iter().all(|r| r.now().iter().all(|&x| x == 0)));
+                } else {
+                    assert!(rooms.iter().zip(&before).all(|(r, b)| r.now() == &b[..]));
+                }
+            }
+        }
+    }
+    assert!(built > 2500 && full > 500, "{built} built, {full} full");
+}
+
+// Every pair against breadth-first counts through the first k hubs; then damaged rooms, and files.
+fn questions(dice: &mut Dice, block: &Block, w: usize, k: usize, order: &[u32], index: &model::Built) {
+    let n = block.n;
+    let d: Vec<_> = (0..n).map(|v| model::counts_from(n, &block.starts, &block.places, v)).collect();
+    let rows = Rows { n, w, labels: &index.labels, counts: &index.counts };
+    for s in 0..n {
+        for t in 0..n {
+            let answer = rows.pair(s, t).unwrap();
+            assert_eq!(answer, model::through(&d, &order[..k], s, t));
+            if k == n {
+                assert_eq!(answer, d[s][t]);
+            }
+        }
+        assert_eq!(rows.row(s).unwrap(), &index.labels[s * w..s * w + index.counts[s] as usize]);
+    }
+    assert_eq!(rows.spread(), model::spread(n, w, &index.labels, &index.counts));
+    spare(block, w, k, order, index);
+
+    let (mut labels, mut counts, mut order) = (index.labels.clone(), index.counts.clone(), order.to_vec());
+    for _ in 0..dice.below(3) {
+        match dice.below(4) {
+            0 => {
+                let at = dice.below(labels.len());
+                labels[at] = dice.odd_number(n);
+            }
+            1 => {
+                let at = dice.below(n);
+                counts[at] = dice.odd_number(w);
+            }
+            2 => {
+                let at = dice.below(n);
+                order[at] = dice.odd_number(n);
+            }
+            _ => {
+                let (a, b) = (dice.below(labels.len()), dice.below(labels.len()));
+                labels.swap(a, b);
+            }
+        }
+    }
+    if dice.one_in(20) {
+        labels.pop();
+    }
+    let asked = [n, n, n, n, 0, n + 1, 4097, usize::MAX][dice.below(8)];
+    let width = [w, w, w, w, 0, w + 1, 257, usize::MAX][dice.below(8)];
+    let rows = Rows { n: asked, w: width, labels: &labels, counts: &counts };
+    for _ in 0..20 {
+        let (s, t) = (dice.below(n + 2), dice.below(n + 2));
+        assert_eq!(rows.pair(s, t), model::pair(asked, width, &labels, &counts, s, t));
+        let check = model::check_row(asked, width, &labels, &counts, s);
+        assert_eq!(rows.check_row(s), check);
+        let row = check.map(|_| &labels[s * width..s * width + counts[s] as usize]);
+        assert_eq!(rows.row(s), row);
+    }
+    assert_eq!(rows.spread(), model::spread(asked, width, &labels, &counts));
+    files(dice, asked, width, k, &order, &labels, &counts);
+}
+
+// No entry is spare: with any one taken out of one row, some pair's answer changes.
+fn spare(block: &Block, w: usize, k: usize, order: &[u32], index: &model::Built) {
+    let n = block.n;
+    if n > 12 {
+        return;
+    }
+    let all = |labels: &[u32], counts: &[u32]| -> Vec<Option<usize>> {
+        let rows = Rows { n, w, labels, counts };
+        (0..n * n).map(|p| rows.pair(p / n, p % n).unwrap()).collect()
+    };
+    let whole = all(&index.labels, &index.counts);
+    assert!(k > 0 || whole.iter().all(Option::is_none));
+    for v in 0..n {
+        for i in 0..index.counts[v] as usize {
+            let (mut labels, mut counts) = (index.labels.clone(), index.counts.clone());
+            labels.copy_within(v * w + i + 1..v * w + counts[v] as usize, v * w + i);
+            counts[v] -= 1;
+            assert_ne!(all(&labels, &counts), whole, "entry {i} of row {v} is spare, order {order:?}");
+        }
+    }
+}
+
+fn files(dice: &mut Dice, n: usize, w: usize, k: usize, order: &[u32], labels: &[u32], counts: &[u32]) {
+    let size = 4 + (21 * n.min(64) + 24 * labels.len() + 7) / 8;
+    let (len, start) = match dice.below(5) {
+        0 => (dice.below(size), dice.below(size + 2)),
+        1 => (size, usize::MAX),
+        _ => (size + 9, dice.below(9)),
+    };
+    let k_asked = [k, k, k, k + 1, k.saturating_sub(1), usize::MAX][dice.below(6)];
+    let before: Vec<u8> = (0..len).map(|_| dice.next() as u8).collect();
+    let mut out = before.clone();
+    let expected = model::write(n, w, k_asked, order, labels, counts, len, start);
+    let rows = Rows { n, w, labels, counts };
+    let got = rows.write(k_asked, order, &mut out, start);
+    assert_eq!(got, expected.as_ref().map(Vec::len).map_err(|r| *r));
+    let Ok(file) = expected else {
+        assert_eq!(out, before);
+        return;
+    };
+    assert_eq!(file.len(), seam::file_bytes(n, counts.iter().map(|&c| c as usize).sum()));
+    assert_eq!(out[..start], before[..start]);
+    assert_eq!(out[start..start + file.len()], file[..]);
+    assert_eq!(out[start + file.len()..], before[start + file.len()..]);
+    back(dice, &file, w);
+    for _ in 0..6 {
+        let mut hurt = file.clone();
+        match dice.below(4) {
+            0 => hurt.truncate(dice.below(file.len() + 1)),
+            1 => hurt.extend((0..1 + dice.below(3)).map(|_| 0)),
+            2 => {
+                let bit = dice.below(8 * hurt.len());
+                hurt[bit / 8] ^= 128 >> (bit % 8);
+            }
+            _ => {
+                let at = dice.below(hurt.len());
+                hurt[at] = dice.next() as u8;
+            }
+        }
+        back(dice, &hurt, w);
+    }
+}
+
+// Reads a file, whatever it holds, with rooms that fit its header or nearly so.
+fn back(dice: &mut Dice, bytes: &[u8], w: usize) {
+    assert_eq!(seam::header(bytes), model::header(bytes));
+    let w = [w, w, w, w, w + 1, w.saturating_sub(1).max(1), 0, 257][dice.below(8)];
+    let n = model::header(bytes).map_or(1, |h| h.0).min(4096);
+    let w_room = w.min(256);
+    let lens: Vec<usize> = [n, n * w_room, n].iter().map(|&l| off_by_one(dice, l)).collect();
+    let mut rooms: Vec<Guarded> = lens.iter().map(|&l| Guarded::dirty(dice, l)).collect();
+    let before: Vec<Vec<u32>> = rooms.iter().map(|r| r.now().to_vec()).collect();
+    let expected = model::read(bytes, w, lens[0], lens[1], lens[2]);
+    let [order, labels, counts] = &mut rooms[..] else { unreachable!() };
+    let got = seam::read(bytes, w, order.room(), labels.room(), counts.room());
+    assert_eq!(got, expected.as_ref().map(|i| (i.n, i.k)).map_err(|r| *r));
+    match expected {
+        Ok(index) => {
+            assert_eq!(rooms[0].now(), index.order);
+            assert_eq!(rooms[1].now(), index.labels);
+            assert_eq!(rooms[2].now(), index.counts);
+            let mut again = vec![0; bytes.len()];
+            let rows = Rows { n, w, labels: rooms[1].now(), counts: rooms[2].now() };
+            assert_eq!(rows.write(index.k, rooms[0].now(), &mut again, 0), Ok(bytes.len()));
+            assert_eq!(again, bytes);
+        }
+        Err(_) => assert!(rooms.iter().zip(&before).all(|(r, b)| r.now() == &b[..])),
+    }
+}
+
+#[test]
+fn limits() {
+    assert_eq!(seam::check_order_of_null(0), (1, 0));
+    assert_eq!(seam::check_order_of_null(1), (2, 0));
+    // A lone frame, and blocks at and over the largest size.
+    let alone = Block::of(1, &[]);
+    assert_eq!(seam::check_links(1, alone.links()), Ok(()));
+    let chain: Vec<_> = (1..4096).map(|v| (v - 1, v)).collect();
+    let long = Block::of(4096, &chain);
+    assert_eq!(seam::check_links(4096, long.links()), Ok(()));
+    let over = Block::of(4097, &chain);
+    assert_eq!(seam::check_links(4097, over.links()), Err(Refusal::Size));
+    // The longest chain in the worst order: the last frame is 4,095 joins from the first hub, and that is not too far.
+    let order: Vec<u32> = (0..4096).collect();
+    let (mut labels, mut counts, mut a, mut b) = (vec![7; 4096], vec![7; 4096], vec![7; 4096], vec![7; 4096]);
+    let built = seam::build(4096, 1, 1, long.links(), &order, &mut labels, &mut counts, (&mut a, &mut b));
+    assert_eq!(built, Ok(4096));
+    assert_eq!(labels[4095], 4095);
+    let rows = Rows { n: 4096, w: 1, labels: &labels, counts: &counts };
+    assert_eq!(rows.pair(4095, 4095), Ok(Some(8190)));
+    assert_eq!(rows.spread(), Ok(8190));
+}
+
+// The paper's worked cases, through the C interface.
+#[test]
+fn by_hand() {
+    let build = |block: &Block, w: usize, k: usize, order: &[u32]| {
+        let n = block.n;
+        let (mut labels, mut counts, mut a, mut b) = (vec![9; n * w], vec![9; n], vec![9; n], vec![9; n]);
+        let built = seam::build(n, w, k, block.links(), order, &mut labels, &mut counts, (&mut a, &mut b));
+        assert!(a.iter().chain(&b).all(|&x| x == 0));
+        (built, labels, counts)
+    };
+    let entry = |rank: u32, joins: u32| rank * 65_536 + joins;
+
+    let chain = Block::of(4, &[(0, 1), (1, 2), (2, 3)]);
+    let mut order = vec![9; 4];
+    assert_eq!(seam::order_by_degree(4, chain.links(), &mut order), Ok(()));
+    assert_eq!(order, [1, 2, 0, 3]);
+    let (built, labels, counts) = build(&chain, 3, 4, &order);
+    assert_eq!(built, Ok(8));
+    assert_eq!(counts, [2, 1, 2, 3]);
+    #[rustfmt::skip]
+    assert_eq!(labels, [entry(0, 1), entry(2, 0), 0, entry(0, 0), 0, 0, entry(0, 1), entry(1, 0), 0, entry(0, 2), entry(1, 1), entry(3, 0)]);
+    let rows = Rows { n: 4, w: 3, labels: &labels, counts: &counts };
+    assert_eq!(rows.pair(0, 3), Ok(Some(3)));
+    assert_eq!(rows.spread(), Ok(4));
+    let mut out = vec![0; 39];
+    assert_eq!(rows.write(4, &order, &mut out, 0), Ok(39));
+    assert_eq!(rows.write(3, &order, &mut out, 0), Err(Refusal::Row(3)));
+    let (built, labels, counts) = build(&chain, 2, 4, &order);
+    assert_eq!(built, Err(Refusal::Room(3)));
+    assert!(labels.iter().chain(&counts).all(|&x| x == 0));
+    assert_eq!(build(&chain, 2, 3, &order).0, Ok(7));
+
+    let (built, labels, counts) = build(&chain, 3, 1, &order);
+    assert_eq!(built, Ok(4));
+    let rows = Rows { n: 4, w: 3, labels: &labels, counts: &counts };
+    assert_eq!((rows.pair(0, 0), rows.pair(2, 3)), (Ok(Some(2)), Ok(Some(3))));
+    let (_, labels, counts) = build(&chain, 3, 0, &order);
+    let rows = Rows { n: 4, w: 3, labels: &labels, counts: &counts };
+    assert!((0..16).all(|p| rows.pair(p / 4, p % 4) == Ok(None)));
+
+    let ring = Block::of(4, &[(0, 1), (1, 2), (2, 3), (3, 0)]);
+    let (built, labels, counts) = build(&ring, 3, 4, &[0, 1, 2, 3]);
+    assert_eq!(built, Ok(9));
+    let rows = Rows { n: 4, w: 3, labels: &labels, counts: &counts };
+    assert_eq!(rows.row(3), Ok(&[entry(0, 1), entry(2, 1), entry(3, 0)][..]));
+    assert_eq!(rows.pair(1, 3), Ok(Some(2)));
+
+    let three = Block::of(3, &[(0, 1)]);
+    for (k, own) in [(2, None), (3, Some(0))] {
+        let (_, labels, counts) = build(&three, 3, k, &[0, 1, 2]);
+        let rows = Rows { n: 3, w: 3, labels: &labels, counts: &counts };
+        assert_eq!(rows.pair(0, 2), Ok(None));
+        assert_eq!(rows.pair(2, 2), Ok(own));
+    }
+
+    let alone = Block::of(1, &[]);
+    for (k, file) in [(1, &[0x10, 0, 0, 0x08, 0, 0, 0x08, 0, 0, 0][..]), (0, &[0x10, 0, 0, 0, 0, 0, 0][..])] {
+        let (_, labels, counts) = build(&alone, 1, k, &[0]);
+        let rows = Rows { n: 1, w: 1, labels: &labels, counts: &counts };
+        let mut out = vec![0xFF; file.len()];
+        assert_eq!(rows.write(k, &[0], &mut out, 0), Ok(file.len()));
+        assert_eq!(out, file);
+        assert_eq!(rows.write(k, &[0], &mut out[1..], 0), Err(Refusal::Out));
+    }
+
+    // An unsorted list that holds the frame asked for: the fault is the unsorted list's.
+    let unsorted = Links { starts: &[0, 1, 3, 6, 7, 8], places: &[1, 0, 2, 4, 3, 1, 2, 2] };
+    assert_eq!(seam::check_links(5, unsorted), Err(Refusal::Links(2)));
+    assert_eq!(seam::check_links(1, Links { starts: &[0, 1], places: &[0] }), Err(Refusal::Links(0)));
+    assert_eq!(seam::read(&[], 3, &mut [], &mut [], &mut []), Err(Refusal::Short(0)));
+}
