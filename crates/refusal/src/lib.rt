@@ -1,5 +1,7 @@
 // The refusal, as a value: a number and a place, 0 where none is named. The numbers 1 to 14 of the paper stand here and
 // in specs/Numbers.antt, and nowhere else.
+ghost use mathlib.Core.Path.{_≡_};
+ghost use Rattle.refusal.specs.Tests.{refusal};
 
 pub const SIZE: u32 = 1;
 
@@ -38,4 +40,11 @@ pub struct Refusal {
 pub enum Verdict {
     Fine,
     Refused(Refusal),
+}
+
+// Refused with this number and place.
+pub fn refused(number: u32, place: usize) -> Verdict
+    ensures { λ r. ⌜ r ≡ Verdict.Refused (refusal number place) ⌝ }
+{
+    Verdict::Refused(Refusal { number, place })
 }

@@ -17,18 +17,30 @@ use Rattle.refusal.proofs.Laws.{test-fine, test-refused, test-held, then-fine, 
 use Rattle.rows.specs.Rooms.{Rooms, sizesFit, roomsFit, roomTests, rowsTest, checkRows, part, partOf, rowAt, soundRow, faultyEntry}
 use Rattle.rows.proofs.Laws.{part-in-room, length-part}
 
-sizes-fit : {n w : ℕ} → 1 ≤ n → n ≤ 4096 → 1 ≤ w → w ≤ 256 → sizesFit n w ≡ true
+pub sizes-fit : {n w : ℕ} → 1 ≤ n → n ≤ 4096 → 1 ≤ w → w ≤ 256 → sizesFit n w ≡ true
 unfolding sizesFit
 sizes-fit {n} {w} a b p q =
     both _ _ (both _ _ (both _ _ (le-leb 1 n a) (le-leb n 4096 b)) (le-leb 1 w p)) (le-leb w 256 q)
 
-fit-sizes : (n w : ℕ) → sizesFit n w ≡ true → (1 ≤ n) × (n ≤ 4096) × (1 ≤ w) × (w ≤ 256)
+-- what the size test shows where it holds
+pub record Sizes (n w : ℕ) : Type 0 where
+  pub some-frames : 1 ≤ n
+  pub frames : n ≤ 4096
+  pub some-width : 1 ≤ w
+  pub width : w ≤ 256
+
+pub sizes-held : (n w : ℕ) → sizesFit n w ≡ true → Sizes n w
 unfolding sizesFit
-fit-sizes n w e =
+sizes-held n w e =
     let p : (leb 1 n && leb n 4096 && leb 1 w ≡ true) × (leb w 256 ≡ true) = both-true _ _ e in
     let q : (leb 1 n && leb n 4096 ≡ true) × (leb 1 w ≡ true) = both-true _ _ (p .0) in
     let r : (leb 1 n ≡ true) × (leb n 4096 ≡ true) = both-true _ _ (q .0) in
-    (leb-true 1 n (r .0), leb-true n 4096 (r .1), leb-true 1 w (q .1), leb-true w 256 (p .1))
+    record {
+      some-frames = leb-true 1 n (r .0);
+      frames = leb-true n 4096 (r .1);
+      some-width = leb-true 1 w (q .1);
+      width = leb-true w 256 (p .1);
+    }
 
 rooms-fit : (n w : ℕ) (labels counts : List ℕ) → length labels ≡ n * w → length counts ≡ n → roomsFit n w labels counts ≡ true
 unfolding roomsFit
@@ -41,22 +53,16 @@ fit-rooms n w labels counts e =
     (eqb-true (length labels) (n * w) (p .0), eqb-true (length counts) n (p .1))
 
 -- 1: a size out of range
-pub size-refused : (n w : ℕ) (labels counts : List ℕ) → (1 ≤ n → n ≤ 4096 → 1 ≤ w → w ≤ 256 → ⊥)
-    → roomTests n w labels counts ≡ Refused (refusal 1 0)
+pub size-refused : (n w : ℕ) (labels counts : List ℕ) → sizesFit n w ≡ false → roomTests n w labels counts ≡ Refused (refusal 1 0)
 unfolding roomTests
-size-refused n w labels counts never =
-    bcase (sizesFit n w)
-    (λ t.
-    let p : (1 ≤ n) × (n ≤ 4096) × (1 ≤ w) × (w ≤ 256) = fit-sizes n w t in
-    absurd (never (p .0) (p .1) (p .2) (p .3)))
-    (λ f. after-refused _ (test-refused 1 0 f))
+size-refused n w labels counts f = after-refused _ (test-refused 1 0 f)
 
 -- 2: a room of another length
-pub length-refused : (n w : ℕ) (labels counts : List ℕ) → 1 ≤ n → n ≤ 4096 → 1 ≤ w → w ≤ 256
-    → (length labels ≡ n * w → length counts ≡ n → ⊥) → roomTests n w labels counts ≡ Refused (refusal 2 0)
+pub length-refused : {n w : ℕ} (labels counts : List ℕ) → Sizes n w → (length labels ≡ n * w → length counts ≡ n → ⊥)
+    → roomTests n w labels counts ≡ Refused (refusal 2 0)
 unfolding roomTests
-length-refused n w labels counts a b p q never =
-    after-fine _ (test-fine 1 0 (sizes-fit a b p q))
+length-refused {n} {w} labels counts s never =
+    after-fine _ (test-fine 1 0 (sizes-fit (s .some-frames) (s .frames) (s .some-width) (s .width)))
     ∙ bcase (roomsFit n w labels counts)
     (λ t.
     let r : (length labels ≡ n * w) × (length counts ≡ n) = fit-rooms n w labels counts t in
@@ -74,13 +80,13 @@ pub fine-rooms : (n w : ℕ) (labels counts : List ℕ) → roomTests n w labels
 unfolding roomTests
 fine-rooms n w labels counts e =
     let both : (test (sizesFit n w) 1 0 ≡ Fine) × (test (roomsFit n w labels counts) 2 0 ≡ Fine) = then-fine _ _ e in
-    let p : (1 ≤ n) × (n ≤ 4096) × (1 ≤ w) × (w ≤ 256) = fit-sizes n w (test-held _ 1 0 (both .0)) in
+    let p : Sizes n w = sizes-held n w (test-held _ 1 0 (both .0)) in
     let r : (length labels ≡ n * w) × (length counts ≡ n) = fit-rooms n w labels counts (test-held _ 2 0 (both .1)) in
     record {
-      some-frames = p .0;
-      frames = p .1;
-      some-width = p .2;
-      width = p .3;
+      some-frames = p .some-frames;
+      frames = p .frames;
+      some-width = p .some-width;
+      width = p .width;
       places = r .0;
       each = r .1;
     }

@@ -1,52 +1,61 @@
-// The tests 1 and 2 on a label room and a count room: n from 1 to 4,096, W from 1 to 256, n * W labels, n counts.
+// The tests 1 and 2 on a label room and a count room: n from 1 to 4,096, W from 1 to 256, n * W labels, n counts; and the
+// sum of a count room.
 ghost use mathlib.Core.Path.{_≡_};
-ghost use Rattle.rows.specs.Rooms.{roomTests};
+ghost use Prim.Native.Nat.{_*_, _≤_};
+ghost use lib.ListN.{length};
+ghost use Rattle.basics.specs.Places.{sum};
+ghost use Rattle.rows.specs.Rooms.{sizesFit, roomTests};
 use crate::entry::Entry;
+use refusal;
 use refusal::LENGTH;
-use refusal::Refusal;
 use refusal::SIZE;
 use refusal::Verdict;
+
+// Whether n is from 1 to 4,096 and W from 1 to 256.
+pub fn sizes_fit(n: usize, w: usize) -> bool
+    ensures { λ r. ⌜ r ≡ sizesFit n w ⌝ }
+{
+    if n < 1 {
+        return false;
+    }
+    if 4096 < n {
+        return false;
+    }
+    if w < 1 {
+        return false;
+    }
+    w <= 256
+}
 
 // 1 and 2 for a label room and a count room.
 pub fn check_rooms(n: usize, w: usize, labels: &[Entry], counts: &[u32]) -> Verdict
     ensures { λ r. ⌜ r ≡ roomTests n w (now (labels .entry)) (now (counts .entry)) ⌝ }
 {
-    if n < 1 {
-        return Verdict::Refused(Refusal {
-            number: SIZE,
-            place: 0,
-        });
-    }
-    if 4096 < n {
-        return Verdict::Refused(Refusal {
-            number: SIZE,
-            place: 0,
-        });
-    }
-    if w < 1 {
-        return Verdict::Refused(Refusal {
-            number: SIZE,
-            place: 0,
-        });
-    }
-    if 256 < w {
-        return Verdict::Refused(Refusal {
-            number: SIZE,
-            place: 0,
-        });
+    let sizes = sizes_fit(n, w);
+    if !sizes {
+        return refusal::refused(SIZE, 0);
     }
     let places = n * w;
     if labels.len() != places {
-        return Verdict::Refused(Refusal {
-            number: LENGTH,
-            place: 0,
-        });
+        return refusal::refused(LENGTH, 0);
     }
     if counts.len() != n {
-        return Verdict::Refused(Refusal {
-            number: LENGTH,
-            place: 0,
-        });
+        return refusal::refused(LENGTH, 0);
     }
     Verdict::Fine
+}
+
+// The sum of all counts.
+pub fn total(counts: &[u32]) -> usize
+    requires { ⌜ length (now counts) ≤ 4096 ⌝ }
+    ensures { λ r. ⌜ (r ≡ sum (now (counts .entry))) × (r ≤ 4096 * 4294967296) ⌝ }
+{
+    let mut entries: usize = 0;
+    let mut v: usize = 0;
+    while v < counts.len() {
+        let count = counts[v] as usize;
+        entries += count;
+        v += 1;
+    }
+    entries
 }

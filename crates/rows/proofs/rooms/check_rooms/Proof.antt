@@ -1,67 +1,88 @@
 -- Each return is one of the room tests' outcomes; the product is formed where n and W are known to be small.
 use Prim.Native.Nat.{ℕ, _≤_, _<_}
-use mathlib.Core.Path.{_≡_, refl, sym}
+use mathlib.Core.Path.{_≡_, sym, _∙_}
+use mathlib.Core.Bool.{true}
 use native.Mathlib.Nat.{mul-le-mul}
 use native.Mathlib.Omega.{arith}
-use lib.ListN.{length}
+use borrow.Author.Needs.{needs}
+use borrow.Author.Tests.{not-true, not-false}
 use denote.Ref.{now}
-use Rattle.rows.proofs.RoomLaws.{size-refused, length-refused, rooms-fine}
+use Rattle.rows.specs.Rooms.{sizesFit}
+use Rattle.rows.proofs.RoomLaws.{Sizes, sizes-held, size-refused, length-refused, rooms-fine}
 use Rattle.rows.proofs.rooms.check_rooms.Statement.{statement}
 use Rattle.rows.proofs.rooms.check_rooms.Tie as tie
 
+sizes-fit-requires : tie.Need-sizes-fit-requires
+sizes-fit-requires c κs = search needs
+
+refused-requires : tie.Need-refused-requires
+refused-requires c κs = search needs
+
 returns : tie.Need-returns
 returns c =
-    let a = c .before .args in
-    sym (size-refused (a .n) (a .w) (now (a .labels)) (now (a .counts)) (λ h k l m. omega arith))
+    let d = c .before .before in
+    let a = d .before .before .before .args in
+    c .refused .ensures
+    ∙ sym (size-refused (a .n) (a .w) (now (a .labels)) (now (a .counts)) (sym (d .sizes-fit .ensures) ∙ not-true _ (c .before .if1 .taken)))
 
-returns-2 : tie.Need-returns-2
-returns-2 c =
-    let a = c .before .before .args in
-    sym (size-refused (a .n) (a .w) (now (a .labels)) (now (a .counts)) (λ h k l m. omega arith))
-
-returns-3 : tie.Need-returns-3
-returns-3 c =
-    let a = c .before .before .before .args in
-    sym (size-refused (a .n) (a .w) (now (a .labels)) (now (a .counts)) (λ h k l m. omega arith))
-
-returns-4 : tie.Need-returns-4
-returns-4 c =
+-- the sizes, where they fit
+sized : (c : tie.Else1) →
     let a = c .before .before .before .before .args in
-    sym (size-refused (a .n) (a .w) (now (a .labels)) (now (a .counts)) (λ h k l m. omega arith))
+    Sizes (a .n) (a .w)
+sized c =
+    let a = c .before .before .before .before .args in
+    sizes-held (a .n) (a .w) (sym (c .before .sizes-fit .ensures) ∙ not-false _ (c .if1 .left))
 
 mul-places : tie.Need-mul-places
 mul-places c =
     let a = c .before .before .before .before .args in
-    record { fits = omega (arith, mul-le-mul {n₁ = a .n} {m₁ = a .w} {n₂ = 4096} {m₂ = 256} (omega arith) (omega arith)) }
+    let s = sized c in
+    record { fits = omega (arith, mul-le-mul {n₁ = a .n} {m₁ = a .w} {n₂ = 4096} {m₂ = 256} (s .frames) (s .width)) }
 
-returns-5 : tie.Need-returns-5
-returns-5 c =
-    let a = c .before .before .before .before .before .args in
-    sym
-    (length-refused (a .n) (a .w) (now (a .labels)) (now (a .counts)) (omega arith) (omega arith) (omega arith) (omega arith)
-    (λ p q. c .if5 .taken p))
+refused-requires-2 : tie.Need-refused-requires-2
+refused-requires-2 c κs = search needs
 
-returns-6 : tie.Need-returns-6
-returns-6 c =
-    let a = c .before .before .before .before .before .before .args in
-    sym
-    (length-refused (a .n) (a .w) (now (a .labels)) (now (a .counts)) (omega arith) (omega arith) (omega arith) (omega arith)
-    (λ p q. c .if6 .taken q))
+returns-2 : tie.Need-returns-2
+returns-2 c =
+    let d = c .before .before in
+    let a = d .before .before .before .before .args in
+    c .refused2 .ensures
+    ∙ sym (length-refused (now (a .labels)) (now (a .counts)) (sized d) (λ p q. c .before .if2 .taken p))
 
-returns-7 : tie.Need-returns-7
-returns-7 c =
+refused-requires-3 : tie.Need-refused-requires-3
+refused-requires-3 c κs = search needs
+
+returns-3 : tie.Need-returns-3
+returns-3 c =
+    let d = c .before .before .before in
+    let a = d .before .before .before .before .args in
+    c .refused3 .ensures
+    ∙ sym (length-refused (now (a .labels)) (now (a .counts)) (sized d) (λ p q. c .before .if3 .taken q))
+
+returns-4 : tie.Need-returns-4
+returns-4 c =
+    let s = sized (c .before .before) in
     sym
     (rooms-fine
     record {
-      some-frames = omega arith;
-      frames = omega arith;
-      some-width = omega arith;
-      width = omega arith;
-      places = c .before .if5 .left;
-      each = c .if6 .left;
+      some-frames = s .some-frames;
+      frames = s .frames;
+      some-width = s .some-width;
+      width = s .width;
+      places = c .before .if2 .left;
+      each = c .if3 .left;
     })
 
 pub check-rooms-spec : {M : Type 1} → statement M
 check-rooms-spec =
     tie.close
-    (tie.spec returns returns-2 returns-3 returns-4 mul-places returns-5 returns-6 returns-7)
+    (tie.spec
+    sizes-fit-requires
+    refused-requires
+    returns
+    mul-places
+    refused-requires-2
+    returns-2
+    refused-requires-3
+    returns-3
+    returns-4)
