@@ -8,6 +8,6 @@ pub mod lookup;
 mod merge;
 pub mod pair;
 pub mod part;
-mod rooms;
+pub mod rooms;
 mod sound;
 pub mod spread;
