@@ -153,6 +153,12 @@ length-part {n} w labels v count h k e =
     length-take-le count (drop (v * w) labels)
     (simp length-drop (omega (arith, row-inside {v = v} {n = n} {c = count} {w = w} h k)))
 
+-- what is cut from a row's start for its count is its used part
+pub cut : (w : ℕ) (labels counts : List ℕ) (v : ℕ)
+    → take (v * w + getD counts v 0 - v * w) (drop (v * w) labels) ≡ rowAt w labels counts v
+unfolding rowAt part
+cut w labels counts v = rw add-sub-cancel-left refl
+
 -- ---- sound rows
 
 -- what makes the first `count` entries of a list sound: strictly rising ranks below the bound, joins below n
