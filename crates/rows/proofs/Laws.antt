@@ -136,12 +136,6 @@ unfolding partStart
 start-in-room {n} w labels v count h k l m e =
     cond-true _ _ (in-room w labels v count (omega arith) l (omega (arith, row-inside {v = v} {n = n} {c = count} {w = w} h m)))
 
--- what is cut from a row's start for a count is its first entries
-pub cut : (w : ℕ) (labels : List ℕ) (v count : ℕ)
-    → take (v * w + count - v * w) (drop (v * w) labels) ≡ part w labels v count
-unfolding part
-cut w labels v count = rw add-sub-cancel-left refl
-
 pub getD-part : (w : ℕ) (labels : List ℕ) (v count i : ℕ) → i < count → getD (part w labels v count) i 0 ≡ getD labels (v * w + i) 0
 unfolding part
 getD-part w labels v count i h = getD-take count (drop (v * w) labels) i 0 h ∙ getD-drop (v * w) labels i 0
@@ -153,11 +147,17 @@ length-part {n} w labels v count h k e =
     length-take-le count (drop (v * w) labels)
     (simp length-drop (omega (arith, row-inside {v = v} {n = n} {c = count} {w = w} h k)))
 
--- what is cut from a row's start for its count is its used part
+-- what is cut from a row's start for a count is so many of its entries
+pub cut-part : (w : ℕ) (labels : List ℕ) (v count : ℕ)
+    → take (v * w + count - v * w) (drop (v * w) labels) ≡ part w labels v count
+unfolding part
+cut-part w labels v count = rw add-sub-cancel-left refl
+
+-- for its own count it is the used part
 pub cut : (w : ℕ) (labels counts : List ℕ) (v : ℕ)
     → take (v * w + getD counts v 0 - v * w) (drop (v * w) labels) ≡ rowAt w labels counts v
-unfolding rowAt part
-cut w labels counts v = rw add-sub-cancel-left refl
+unfolding rowAt
+cut w labels counts v = cut-part w labels v (getD counts v 0)
 
 -- ---- sound rows
 

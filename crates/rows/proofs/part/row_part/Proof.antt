@@ -12,7 +12,7 @@ use denote.Ref.{now, ptr}
 use Rattle.basics.proofs.Laws.{cond-true, cond-false}
 use Rattle.rows.specs.Entry.{entryBytes}
 use Rattle.rows.specs.Rooms.{partOf, partStart, inRoom}
-use Rattle.rows.proofs.Laws.{cut, room-held}
+use Rattle.rows.proofs.Laws.{cut-part, room-held}
 use Rattle.rows.proofs.part.row_part.Statement.{statement}
 use Rattle.rows.proofs.part.row_part.Tie as tie
 
@@ -32,7 +32,7 @@ whole : (w : ℕ) (labels : List ℕ) (v count : ℕ) (p : ℕ × ℕ) → inRoo
     × (_≡_ {A = ℕ × ℕ} (p .0, v * w * 4 + p .1) (p .0, partStart w labels v count * entryBytes + p .1))
 unfolding partOf partStart
 whole w labels v count p e = (
-  cut w labels v count ∙ sym (cond-true _ _ e),
+  cut-part w labels v count ∙ sym (cond-true _ _ e),
   ap (λ (m : ℕ). (p .0, m * 4 + p .1)) (sym (cond-true _ _ e)),
 )
 

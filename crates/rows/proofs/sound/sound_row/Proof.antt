@@ -8,7 +8,7 @@ use borrow.Author.Needs.{needs}
 use lib.ListN.{length, getD}
 use denote.Ref.{now}
 use Rattle.basics.specs.Places.{some}
-use Rattle.rows.specs.Rooms.{faultyEntry, rowAt}
+use Rattle.rows.specs.Rooms.{faultyEntry}
 use Rattle.rows.proofs.Laws.{cut, row-inside}
 use Rattle.rows.proofs.RoomLaws.{count-unsound, sound-by-entries}
 use Rattle.rows.proofs.sound.sound_row.Statement.{statement}
@@ -23,18 +23,14 @@ shared-slice-read-count c = search needs
 cast-count : tie.Need-cast-count
 cast-count c = omega (arith, c .shared-slice-known3 .given (c .before .before .before .args .v))
 
--- the used part ends in the room
+-- the row ends in the room
 inside : (c : tie.Else1) →
     let a = c .before .before .before .before .args in
-    a .v * a .w + getD (now (a .counts)) (a .v) 0 ≤ length (now (a .labels))
+    a .v * a .w + a .w ≤ length (now (a .labels))
 inside c =
     let s = c .before .before .before .before in
     let a = s .args in
-    omega (
-      arith,
-      s .pre .0 .places,
-      row-inside {v = a .v} {n = a .n} {c = getD (now (a .counts)) (a .v) 0} {w = a .w} (s .pre .1) (c .if1 .left),
-    )
+    omega (arith, s .pre .0 .places, row-inside {v = a .v} {n = a .n} {c = a .w} {w = a .w} (s .pre .1) (omega arith))
 
 returns : tie.Need-returns
 returns c =
@@ -71,13 +67,12 @@ sound-part-requires : tie.Need-sound-part-requires
 sound-part-requires c κs = search needs
 
 returns-2 : tie.Need-returns-2
-unfolding rowAt
 returns-2 c =
     let s = c .before .before .before .before .before .before in
     let a = s .args in
     c .sound-part .ensures
     ∙ ap (λ (row : List ℕ). not (some (faultyEntry (a .bound) (a .n) row) 0 (length row)))
-    (cut (a .w) (now (a .labels)) (a .v) (getD (now (a .counts)) (a .v) 0))
+    (cut (a .w) (now (a .labels)) (now (a .counts)) (a .v))
     ∙ sym (sound-by-entries (s .pre .0) (a .v) (s .pre .1) (c .before .before .if1 .left) (a .bound))
 
 pub sound-row-spec : {M : Type 1} → statement M
