@@ -7,7 +7,7 @@ ghost use lib.ListN.{length, getD};
 ghost use Rattle.rows.specs.Entry.{rankOf};
 ghost use Rattle.build.specs.Walk.{metRoom};
 ghost use Rattle.build.specs.Explore.{within, notedBy, forgotten, drops, DropIn, MeetIn, Grown};
-ghost use Rattle.build.specs.Explore.{StepIn, SpreadIn, Bfs, ExploreIn, Queued};
+ghost use Rattle.build.specs.Explore.{StepIn, SpreadIn, Bfs, ExploreIn, Queued, Low};
 use rows::entry::Entry;
 use rows::entry::joins_of;
 use rows::entry::rank_of;
@@ -213,6 +213,7 @@ pub fn explore(
         (now (counts .entry)) hub
         ⌝ }
     ensures frames { λ r. ⌜ Queued (now (met .exit)) (now (queue .exit)) r ⌝ }
+    ensures low { λ r. ⌜ Low (now (met .exit)) r ⌝ }
 {
     let start = hub * w;
     let end = start + counts[hub] as usize;

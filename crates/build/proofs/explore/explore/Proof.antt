@@ -2,6 +2,7 @@
 use native.Mathlib.Omega.{arith}
 use borrow.Author.Needs.{needs}
 use Rattle.rows.proofs.Laws.{cut}
+use Rattle.build.proofs.BfsEnd.{bfs-low}
 use Rattle.build.proofs.BfsWalk.{hub-row, note-in, spread-in, forget-in, notes-back, room-is}
 use Rattle.build.proofs.DropRow.{row-start, row-end}
 use Rattle.build.proofs.explore.explore.Statement.{statement}
@@ -68,7 +69,7 @@ returns c =
     let s = m .before .before .before .before .before .before .before .before .before .before .before in
     let own = cut (s .args .w) (s .args .labels .now) (s .args .counts .now) (s .args .hub) in (
       notes-back (s .pre) own (m .note .ensures) (f .forget .ensures),
-      (room-is (s .pre) own (m .note .ensures) (k .spread .ensures), k .spread .ensures .line .is),
+      (room-is (s .pre) own (m .note .ensures) (k .spread .ensures), (k .spread .ensures .line .is, bfs-low (k .spread .ensures))),
     )
 
 pub explore-spec : {M : Type 1} → statement M
