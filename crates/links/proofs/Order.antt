@@ -33,11 +33,10 @@ pub order-unfit : (n : ℕ) (O : List ℕ) → framesFit n ≡ false → checkOr
 unfolding checkOrder
 order-unfit n O e = after-refused _ (test-refused _ _ e)
 
-pub order-length : (n : ℕ) (O : List ℕ) → 1 ≤ n → n ≤ 4096 → (length O ≡ n → ⊥)
-    → checkOrder n O ≡ Refused (refusal LENGTH 0)
+pub order-length : (n : ℕ) (O : List ℕ) → framesFit n ≡ true → (length O ≡ n → ⊥) → checkOrder n O ≡ Refused (refusal LENGTH 0)
 unfolding checkOrder
-order-length n O one most other =
-    after-fine _ (test-fine _ _ (frames-fit n one most))
+order-length n O fits other =
+    after-fine _ (test-fine _ _ fits)
     ∙ after-refused _ (test-refused _ _ (ne-eqb (length O) n other))
 
 -- ---- one pass over the ranks

@@ -2,7 +2,7 @@
 -- number and place.
 use Prim.Native.Nat.{ℕ, _<_}
 use mathlib.Core.Path.{_≡_, refl, sym, ap, _∙_}
-use mathlib.Core.Bool.{Bool, true, false}
+use mathlib.Core.Bool.{Bool, true, false, _&&_}
 use native.Mathlib.Omega.{arith}
 use Rattle.refusal.specs.Tests.{test, _then_, refusal, numberOf, placeOf}
 use Rattle.refusal.specs.declared.Refusal.{Refusal}
@@ -65,3 +65,9 @@ vcase (Refused r) f g = g r refl
 pub told : (r s : Refusal) → numberOf (Refused r) ≡ numberOf (Refused s) → placeOf (Refused r) ≡ placeOf (Refused s) → r ≡ s
 unfolding numberOf placeOf
 told r s p q = λ i. record { number = p i; place = q i }
+
+-- two tests with one number and place are one
+pub test-both : (a b : Bool) (number place : ℕ) → test (a && b) number place ≡ (test a number place then test b number place)
+unfolding test _then_
+test-both true b number place = refl
+test-both false b number place = refl
