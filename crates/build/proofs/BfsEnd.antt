@@ -17,7 +17,7 @@ use Rattle.theory.specs.Walk.{Met, levels}
 use Rattle.theory.proofs.DistPlain.{joined-link, link-joined}
 use Rattle.theory.proofs.Levels.{oneEach, met-levels}
 use Rattle.build.specs.Walk.{mark}
-use Rattle.build.specs.Explore.{Bfs, Kept, Dropped, levelAt}
+use Rattle.build.specs.Explore.{Bfs, Low, Kept, Dropped, levelAt}
 
 -- the level that a met room holds for v, and B where v is not met
 unfoldable pub levelIn : ℕ → List ℕ → ℕ → ℕ
@@ -148,3 +148,16 @@ module _ {n : ℕ} {S L : List ℕ} (block : Block n 1 S L ones) {drop : ℕ →
 
   pub bfs-room : M ≡ table n (λ v. mark B (levels B n (joined S L) P hub n v) (P v))
   bfs-room = is-table 0 M n (λ v. mark B (levels B n (joined S L) P hub n v) (P v)) (b .long) room-at
+
+-- level j + 1 needs j frames before it in the queue
+pub bfs-low : {n : ℕ} {S L : List ℕ} {drop : ℕ → ℕ → Bool} {hub : ℕ} {M Q : List ℕ} {t : ℕ} → Bfs n S L drop hub M Q t t → Low M t
+bfs-low {M = M} b =
+    record {
+      mark = λ v h plain.
+          lt-or-ge 0 (getD M v 0)
+          (λ m.
+          let (i, p, q) = b .line .is .all v h m in
+          let short : levelAt M v ≤ i + 1 = rw q at (b .short i p) in
+          omega arith)
+          (λ z. omega arith);
+    }

@@ -10,13 +10,13 @@ use Rattle.basics.proofs.Laws.{least-most}
 use Rattle.theory.specs.Distance.{far}
 use Rattle.theory.specs.Rows.{answer}
 use Rattle.rows.specs.Entry.{rankOf, decode}
-use Rattle.rows.specs.Rooms.{partOf, rowAt}
+use Rattle.rows.specs.Rooms.{rowAt}
 use Rattle.build.specs.Walk.{soFar, levelOf, metRoom}
 use Rattle.build.specs.Explore.{ExploreIn, DropIn, SpreadIn, Bfs, drops, notedBy, forgotten}
 use Rattle.build.proofs.BfsEnd.{bfs-room}
 use Rattle.build.proofs.DropNotes.{note-long, note-forget, notes-at}
 use Rattle.build.proofs.DropWithin.{Notes, within-answer}
-use Rattle.build.proofs.DropRow.{row-is, row-long, row-low, row-noted}
+use Rattle.build.proofs.DropRow.{row-long, row-low, row-noted}
 
 -- infinity is above every frame number
 above : (n : ℕ) → n < far 1 n
@@ -45,13 +45,13 @@ module _ {n w : ℕ} {S L labels counts : List ℕ} {hub : ℕ} {met queue noted
         frame = h;
       }
 
-  -- `row` is the part lent for the hub's row, T the table with its notes
-  module _ {row : List ℕ} (own : row ≡ partOf w labels hub (getD counts hub 0)) where
-    pub note-in : (i : ℕ) → i < length row → rankOf (getD row i 0) < length noted
-    note-in = row-noted (drop-in noted refl hub (e .hub-in)) row own
+  pub hub-row : DropIn n w labels counts noted hub
+  hub-row = drop-in noted refl hub (e .hub-in)
 
-    own-row : row ≡ rowAt w labels counts hub
-    own-row = own ∙ row-is (drop-in noted refl hub (e .hub-in))
+  -- `row` is the part lent for the hub's row, T the table with its notes
+  module _ {row : List ℕ} (own : row ≡ rowAt w labels counts hub) where
+    pub note-in : (i : ℕ) → i < length row → rankOf (getD row i 0) < length noted
+    note-in = row-noted hub-row own
 
     module _ {T : List ℕ} (filled : T ≡ notedBy row noted) where
       long : length T ≡ length noted
@@ -80,13 +80,12 @@ module _ {n w : ℕ} {S L labels counts : List ℕ} {hub : ℕ} {met queue noted
       notes : Notes (far 1 n) n (decode (rowAt w labels counts hub)) T
       unfolding far
       notes r h =
-          let d : DropIn n w labels counts noted hub = drop-in noted refl hub (e .hub-in) in
           let there : getD noted r 0 ≡ 65536 =
           ap (λ (l : List ℕ). getD l r 0) (e .noted-far) ∙ getD-replicate 4096 r 65536 0 (omega (arith, e .frames)) in
           let low : far 1 n ≤ 65536 = omega (arith, e .frames) in
           notes-at (far 1 n) (rowAt w labels counts hub) noted r low (omega (arith, noted-long, e .frames)) there
-          (λ i j p q. e .rows .rising hub i j (e .hub-in) p (omega (arith, row-long d)))
-          ∙ ap (λ (l : List ℕ). min (far 1 n) (getD l r 0)) (ap (λ (k : List ℕ). notedBy k noted) (sym own-row) ∙ sym filled)
+          (λ i j p q. e .rows .rising hub i j (e .hub-in) p (omega (arith, row-long hub-row)))
+          ∙ ap (λ (l : List ℕ). min (far 1 n) (getD l r 0)) (ap (λ (k : List ℕ). notedBy k noted) (sym own) ∙ sym filled)
 
       -- so the drop test is the answer's comparison with the level
       test-is : (u level : ℕ) → u < n → level < n

@@ -10,13 +10,13 @@ use borrow.Author.Tests.{lt-ltb, le-ltb, lt-leb, ltb-true, leb-true, leb-false, 
 use lib.ListN.{length, getD, set}
 use lib.Dec.{leb, ltb, eqb}
 use Rattle.basics.specs.Places.{some}
-use Rattle.basics.proofs.Laws.{bcase, by-cases, not-both, both, both-true, of-not-true, not-of-true, not-of-false, same-truth, cond-true, cond-false, some-one, some-found, some-not, some-none, some-end}
+use Rattle.basics.proofs.Laws.{bcase, by-cases, lt-or-ge, not-both, both, both-true, of-not-true, not-of-true, not-of-false, same-truth, cond-true, cond-false, some-one, some-found, some-not, some-none, some-end}
 use Rattle.theory.specs.Rows.{Row}
 use Rattle.rows.specs.Entry.{entryOf}
 use Rattle.build.specs.Build.{labelsOf, countsOf}
-use Rattle.build.specs.Explore.{Queued}
+use Rattle.build.specs.Explore.{Queued, Low}
 use Rattle.build.specs.Settle.{rowsIn, Laid, isKept, lacksRoom, isFar, fitsAll, noneFar, gain, rowsAfter, SettleIn, settleOf}
-use Rattle.build.specs.declared.settle.Walked.the-variants.{Made, Full, Far}
+use Rattle.build.specs.declared.settle.Walked.the-variants.{Made, Full}
 use Rattle.build.proofs.RoomLaws.{labels-gain, counts-gain, labels-ext, counts-ext, count-at}
 
 -- ---- marks
@@ -84,18 +84,6 @@ unfolding fitsAll
 fits-each w counts met v e h =
     some-not (λ u. lacksRoom w (getD counts u 0) (getD met u 0)) 0 (length met) v
     (of-not-true (some (λ u. lacksRoom w (getD counts u 0) (getD met u 0)) 0 (length met)) e) (omega arith) (omega arith)
-
-module _ (met queue : List ℕ) (tail : ℕ) (q : Queued met queue tail) where
-  pub far-done : ((j : ℕ) → j < tail → isFar (getD met (getD queue j 0) 0) ≡ false) → noneFar met ≡ true
-  unfolding noneFar isFar
-  far-done none =
-      not-of-false
-      (none-bad met queue tail q (λ v. isKept (getD met v 0) && ltb 4096 (getD met v 0))
-      (λ v e. both-true (isKept (getD met v 0)) (ltb 4096 (getD met v 0)) e .0) none)
-
-  pub far-not : (j : ℕ) → j < tail → isFar (getD met (getD queue j 0) 0) ≡ true → noneFar met ≡ false
-  unfolding noneFar
-  far-not j h e = not-of-true (one-bad met queue tail q (λ v. isFar (getD met v 0)) j h e)
 
 -- ---- rows stored along the queue
 
@@ -264,15 +252,25 @@ module _ (w rank : ℕ) (labels counts met queue : List ℕ) (tail : ℕ) (s : S
 
 -- ---- which way the walk ends
 
-module _ (w : ℕ) (counts met : List ℕ) where
+module _ {w : ℕ} {labels counts met queue : List ℕ} {tail : ℕ} (s : SettleIn w labels counts met queue tail) where
   pub settle-full : fitsAll w counts met ≡ false → settleOf w counts met ≡ Full
   unfolding settleOf
   settle-full e = cond-false _ _ e
 
-  pub settle-far : fitsAll w counts met ≡ true → noneFar met ≡ false → settleOf w counts met ≡ Far
-  unfolding settleOf
-  settle-far e f = cond-true _ _ e ∙ cond-false _ _ f
+  -- a walk over at most 4,096 frames gives none over 4,095 joins
+  none-far : tail ≤ 4096 → noneFar met ≡ true
+  unfolding noneFar isFar
+  none-far few =
+      not-of-false
+      (some-none _ 0 (length met)
+      (λ v h k.
+      lt-or-ge (getD met v 0) 65536
+      (λ plain.
+      let near : ltb 4096 (getD met v 0) ≡ false =
+      le-ltb 4096 (getD met v 0) (omega (arith, s .low .mark v (omega arith) plain)) in
+      rw near (and-no (isKept (getD met v 0))))
+      (λ drop. rw (dropped-mark (getD met v 0) drop) refl)))
 
-  pub settle-made : fitsAll w counts met ≡ true → noneFar met ≡ true → settleOf w counts met ≡ Made
+  pub settle-made : fitsAll w counts met ≡ true → tail ≤ 4096 → settleOf w counts met ≡ Made
   unfolding settleOf
-  settle-made e f = cond-true _ _ e ∙ cond-true _ _ f
+  settle-made e few = cond-true _ _ e ∙ cond-true _ _ (none-far few)

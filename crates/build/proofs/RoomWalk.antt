@@ -16,6 +16,7 @@ use Rattle.theory.specs.Walk.{levels, walkRow}
 use Rattle.theory.specs.Plain.{joined}
 use Rattle.build.specs.Build.{labelsOf, countsOf}
 use Rattle.build.specs.Walk.{soFar, levelOf, kept, mark, metRoom, walkFits}
+use Rattle.build.specs.Explore.{ExploreIn}
 use Rattle.build.specs.Settle.{rowsIn, isKept, lacksRoom, isFar, fitsAll, noneFar, gain, rowsAfter, settleOf, walkedRows, walkNear, walkOf, ifMade, WalkOut}
 use Rattle.build.specs.declared.settle.Walked.{Walked}
 use Rattle.build.specs.declared.settle.Walked.the-variants.{Made, Full, Far}
@@ -77,7 +78,8 @@ module _ (most level answered : ℕ) (few : most < 65535) (cap : answered ≤ mo
 
 -- ---- the whole met room
 
-module _ (n w : ℕ) (S L labels counts : List ℕ) (hub : ℕ) (frames : n ≤ 4096) where
+module _ {n w : ℕ} {S L labels counts : List ℕ} {hub : ℕ} {met₀ queue₀ noted : List ℕ}
+    (given : ExploreIn n w S L labels counts hub met₀ queue₀ noted) where
   length-met : length (metRoom n w S L labels counts hub) ≡ n
   unfolding metRoom
   length-met =
@@ -92,7 +94,7 @@ module _ (n w : ℕ) (S L labels counts : List ℕ) (hub : ℕ) (frames : n ≤ 
 
   few : far 1 n < 65535
   unfolding far
-  few = omega arith
+  few = omega (arith, given .frames)
 
   so-far-cap : (v : ℕ) → soFar n w labels counts hub v ≤ far 1 n
   unfolding soFar answer
@@ -135,7 +137,7 @@ module _ (n w : ℕ) (S L labels counts : List ℕ) (hub : ℕ) (frames : n ≤ 
       (rowsIn w labels counts v)
 
   -- the same for a met room that is the one the first half leaves
-  module _ (met : List ℕ) (is : met ≡ metRoom n w S L labels counts hub) where
+  module _ {met : List ℕ} (is : met ≡ metRoom n w S L labels counts hub) where
     pub met-long : length met ≡ n
     met-long = ap length is ∙ length-met
 
@@ -145,11 +147,11 @@ module _ (n w : ℕ) (S L labels counts : List ℕ) (hub : ℕ) (frames : n ≤ 
     after-is : (rank v : ℕ) → v < n → rowsAfter w rank labels counts met v ≡ walkedRows n w S L labels counts rank hub v
     after-is rank v h = ap (λ (m : List ℕ). rowsAfter w rank labels counts m v) is ∙ rows-are rank v h
 
-    stored-labels : (rank : ℕ) → 1 ≤ w → labelsOf (length met) w (rowsAfter w rank labels counts met)
+    stored-labels : (rank : ℕ) → labelsOf (length met) w (rowsAfter w rank labels counts met)
         ≡ labelsOf n w (walkedRows n w S L labels counts rank hub)
-    stored-labels rank wide =
+    stored-labels rank =
         rw met-long
-        (labels-ext n w (rowsAfter w rank labels counts met) (walkedRows n w S L labels counts rank hub) wide (after-is rank))
+        (labels-ext n w (rowsAfter w rank labels counts met) (walkedRows n w S L labels counts rank hub) (given .wide) (after-is rank))
 
     stored-counts : (rank : ℕ) → countsOf (length met) (rowsAfter w rank labels counts met)
         ≡ countsOf n (walkedRows n w S L labels counts rank hub)
@@ -157,16 +159,16 @@ module _ (n w : ℕ) (S L labels counts : List ℕ) (hub : ℕ) (frames : n ≤ 
         rw met-long (counts-ext n (rowsAfter w rank labels counts met) (walkedRows n w S L labels counts rank hub) (after-is rank))
 
     -- what the second half leaves, told by levels
-    pub walk-left : (rank : ℕ) → 1 ≤ w → (walked : Walked) (labels′ counts′ met′ queue′ : List ℕ)
+    pub walk-left : (rank : ℕ) → {walked : Walked} {labels′ counts′ met′ queue′ : List ℕ}
         → walked ≡ settleOf w counts met
         → labels′ ≡ ifMade walked (labelsOf (length met) w (rowsAfter w rank labels counts met)) labels
         → counts′ ≡ ifMade walked (countsOf (length met) (rowsAfter w rank labels counts met)) counts
         → met′ ≡ replicate (length met) 0 → queue′ ≡ replicate (length met) 0
         → WalkOut n w S L labels counts rank hub walked labels′ counts′ met′ queue′
-    walk-left rank wide walked labels′ counts′ met′ queue′ answer rows numbers m q =
+    walk-left rank {walked} answer rows numbers m q =
         record {
           answer = answer ∙ settled-is;
-          rows = rows ∙ ap (λ (l : List ℕ). ifMade walked l labels) (stored-labels rank wide);
+          rows = rows ∙ ap (λ (l : List ℕ). ifMade walked l labels) (stored-labels rank);
           numbers = numbers ∙ ap (λ (l : List ℕ). ifMade walked l counts) (stored-counts rank);
           met-zero = m ∙ ap (λ (j : ℕ). replicate j 0) met-long;
           queue-zero = q ∙ ap (λ (j : ℕ). replicate j 0) met-long;

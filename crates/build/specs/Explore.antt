@@ -45,6 +45,10 @@ pub record Queued (met queue : List ℕ) (t : ℕ) : Type 0 where
   pub once : (i j : ℕ) → i < j → j < t → getD queue i 0 ≡ getD queue j 0 → ⊥
   pub rest : (i : ℕ) → t ≤ i → getD queue i 0 ≡ 0
 
+-- a frame that is not dropped has a level below t: its mark is the level + 1
+pub record Low (met : List ℕ) (t : ℕ) : Type 0 where
+  pub mark : (v : ℕ) → v < length met → getD met v 0 < 65536 → getD met v 0 ≤ t
+
 -- how many places of a list are not 0
 unfoldable pub filled : List ℕ → ℕ
 filled [] = 0

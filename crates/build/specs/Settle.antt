@@ -18,7 +18,7 @@ use Rattle.theory.specs.Plain.{joined}
 use Rattle.rows.specs.Entry.{decode}
 use Rattle.rows.specs.Rooms.{rowAt}
 use Rattle.build.specs.Build.{labelsOf, countsOf}
-use Rattle.build.specs.Explore.{Queued, ExploreIn}
+use Rattle.build.specs.Explore.{Queued, Low, ExploreIn}
 use Rattle.build.specs.Walk.{levelOf, kept, walkFits}
 use Rattle.build.specs.declared.settle.Walked.{Walked}
 use Rattle.build.specs.declared.settle.Walked.the-variants.{Made, Full, Far}
@@ -82,6 +82,7 @@ pub record SettleIn (w : ℕ) (labels counts met queue : List ℕ) (tail : ℕ) 
   pub width : w ≤ 256
   pub laid : Laid (length met) w labels counts
   pub queued : Queued met queue tail
+  pub low : Low met tail
 
 -- the walk decides before it stores: ROOM first, then FAR
 unfoldable pub settleOf : ℕ → List ℕ → List ℕ → Walked

@@ -7,11 +7,10 @@ ghost use lib.ListN.{length, getD};
 ghost use Rattle.rows.specs.Entry.{rankOf};
 ghost use Rattle.build.specs.Walk.{metRoom};
 ghost use Rattle.build.specs.Explore.{within, notedBy, forgotten, drops, DropIn, MeetIn, Grown};
-ghost use Rattle.build.specs.Explore.{StepIn, SpreadIn, Bfs, ExploreIn, Queued};
+ghost use Rattle.build.specs.Explore.{StepIn, SpreadIn, Bfs, ExploreIn, Queued, Low};
 use rows::entry::Entry;
 use rows::entry::joins_of;
 use rows::entry::rank_of;
-use rows::part::row_part;
 
 // What the met room has more for a dropped frame: above every level.
 pub const DROPPED: u32 = 65536;
@@ -109,9 +108,9 @@ fn dropped(
     requires { ⌜ DropIn (length (now counts)) w (now labels) (now counts) (now noted) u ⌝ }
     ensures { λ r. ⌜ r ≡ drops w (now (labels .entry)) (now (counts .entry)) (now (noted .entry)) u level ⌝ }
 {
-    let count = counts[u] as usize;
-    let row = row_part(labels, w, u, count);
-    near(row, noted, level)
+    let start = u * w;
+    let end = start + counts[u] as usize;
+    near(&labels[start..end], noted, level)
 }
 
 // The frame at `head`: dropped, it gets its mark; else its neighbours that are not met yet are met one level on.
@@ -214,9 +213,11 @@ pub fn explore(
         (now (counts .entry)) hub
         ⌝ }
     ensures frames { λ r. ⌜ Queued (now (met .exit)) (now (queue .exit)) r ⌝ }
+    ensures low { λ r. ⌜ Low (now (met .exit)) r ⌝ }
 {
-    let count = counts[hub] as usize;
-    let own = row_part(labels, w, hub, count);
+    let start = hub * w;
+    let end = start + counts[hub] as usize;
+    let own = &labels[start..end];
     note(own, noted);
     let tail = spread(w, starts, places, labels, counts, noted, hub, met, queue);
     forget(own, noted);

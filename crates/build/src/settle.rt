@@ -9,7 +9,7 @@ ghost use Prim.Native.Nat.{_+_, _-_, _*_, _≤_, _<_};
 ghost use lib.ListN.{length, getD, set, replicate};
 ghost use Rattle.rows.specs.Entry.{entryOf};
 ghost use Rattle.build.specs.Explore.{Queued};
-ghost use Rattle.build.specs.Settle.{isKept, lacksRoom, isFar, fitsAll, noneFar, GiveIn, SettleIn, settleOf, labelsAfter, countsAfter, ifMade};
+ghost use Rattle.build.specs.Settle.{isKept, lacksRoom, fitsAll, GiveIn, SettleIn, settleOf, labelsAfter, countsAfter, ifMade};
 
 // What became of a walk: made as a whole, or refused for room or for too many joins with nothing stored.
 pub enum Walked {
@@ -29,17 +29,6 @@ pub fn lacks_room(w: usize, count: u32, mark: u32) -> bool
     w <= count as usize
 }
 
-// A met frame with this mark is kept and has over 4,095 joins.
-pub fn is_far(mark: u32) -> bool
-    requires { ⌜ 0 < mark ⌝ }
-    ensures { λ r. ⌜ r ≡ isFar mark ⌝ }
-{
-    if DROPPED <= mark {
-        return false;
-    }
-    4096 < mark
-}
-
 // Every kept frame has room for one more entry.
 pub fn fits(w: usize, counts: &[u32], met: &[u32], queue: &[u32], tail: usize) -> bool
     requires { ⌜ (length (now counts) ≡ length (now met)) × Queued (now met) (now queue) tail ⌝ }
@@ -50,23 +39,6 @@ pub fn fits(w: usize, counts: &[u32], met: &[u32], queue: &[u32], tail: usize) -
         let v = queue[at] as usize;
         let full = lacks_room(w, counts[v], met[v]);
         if full {
-            return false;
-        }
-        at += 1;
-    }
-    true
-}
-
-// No kept frame has over 4,095 joins.
-pub fn none_far(met: &[u32], queue: &[u32], tail: usize) -> bool
-    requires { ⌜ Queued (now met) (now queue) tail ⌝ }
-    ensures { λ r. ⌜ r ≡ noneFar (now (met .entry)) ⌝ }
-{
-    let mut at = 0;
-    while at < tail {
-        let v = queue[at] as usize;
-        let far = is_far(met[v]);
-        if far {
             return false;
         }
         at += 1;
@@ -141,7 +113,8 @@ pub fn clean(met: &mut [u32], queue: &mut [u32], tail: usize)
     }
 }
 
-// Decides, and then stores the whole walk or nothing.
+// Decides, and then stores the whole walk or nothing. A level is below the number of frames met, so that only a walk over
+// more than 4,096 frames could give one over 4,095 joins.
 pub fn settle(
     w: usize,
     rank: usize,
@@ -164,8 +137,7 @@ pub fn settle(
 {
     let room = fits(w, counts, met, queue, tail);
     if room {
-        let short = none_far(met, queue, tail);
-        if short {
+        if tail <= 4096 {
             store(w, rank, labels, counts, met, queue, tail);
             return Walked::Made;
         }

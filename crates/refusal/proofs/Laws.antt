@@ -1,7 +1,7 @@
 -- The laws of tests in a row: what a passed test shows, what a failed one gives, and that a verdict is told by the paper's
 -- number and place.
-use Prim.Native.Nat.{ℕ, _<_}
-use mathlib.Core.Path.{_≡_, refl, sym, ap, _∙_}
+use Prim.Native.Nat.{ℕ, _≤_}
+use mathlib.Core.Path.{_≡_, refl, sym, ap, subst, _∙_}
 use mathlib.Core.Bool.{Bool, true, false, _&&_}
 use native.Mathlib.Omega.{arith}
 use Rattle.refusal.specs.Tests.{test, _then_, refusal, numberOf, placeOf}
@@ -65,6 +65,29 @@ vcase (Refused r) f g = g r refl
 pub told : (r s : Refusal) → numberOf (Refused r) ≡ numberOf (Refused s) → placeOf (Refused r) ≡ placeOf (Refused s) → r ≡ s
 unfolding numberOf placeOf
 told r s p q = λ i. record { number = p i; place = q i }
+
+-- success is 0, and nothing else: a refusal has a number of its own
+unfoldable pub Numbered : Verdict → Type 0
+Numbered Fine = Unit {0}
+Numbered (Refused r) = 1 ≤ r .number
+
+pub numbered-fine : Numbered Fine
+unfolding Numbered
+numbered-fine = tt
+
+pub numbered-test : (b : Bool) (number place : ℕ) → 1 ≤ number → Numbered (test b number place)
+unfolding Numbered test
+numbered-test true number place h = tt
+numbered-test false number place h = h
+
+pub numbered-then : (v next : Verdict) → Numbered v → Numbered next → Numbered (v then next)
+unfolding Numbered _then_
+numbered-then Fine next p q = q
+numbered-then (Refused r) next p q = p
+
+pub numbered-refused : {v : Verdict} {r : Refusal} → Numbered v → v ≡ Refused r → 1 ≤ r .number
+unfolding Numbered
+numbered-refused p e = subst Numbered e p
 
 -- two tests with one number and place are one
 pub test-both : (a b : Bool) (number place : ℕ) → test (a && b) number place ≡ (test a number place then test b number place)

@@ -3,7 +3,7 @@ use Prim.Native.Nat.{ℕ, zero, suc, _+_, _-_, _*_, _/_, _%_, _≤_, _<_}
 use mathlib.Core.Path.{_≡_, refl, sym, ap, _∙_}
 use mathlib.Core.Bool.{Bool, true, false, cond, not, _&&_, _||_}
 use mathlib.Core.List.{List, [], _∷_, _++_}
-use native.Mathlib.Nat.{suc-mul, mul-le-mul-right, add-sub-cancel}
+use native.Mathlib.Nat.{suc-mul, mul-le-mul-right, add-sub-cancel, add-sub-cancel-left}
 use native.Mathlib.Omega.{arith}
 use borrow.Author.Tests.{ltb-true, leb-true, leb-false, ltb-false, lt-ltb, le-leb, lt-leb, le-ltb}
 use lib.ListN.{length, getD, take, drop, length-append, length-drop, length-take}
@@ -135,6 +135,12 @@ unfolding part
 length-part {n} w labels v count h k e =
     length-take-le count (drop (v * w) labels)
     (simp length-drop (omega (arith, row-inside {v = v} {n = n} {c = count} {w = w} h k)))
+
+-- what is cut from a row's start for its count is its used part
+pub cut : (w : ℕ) (labels counts : List ℕ) (v : ℕ)
+    → take (v * w + getD counts v 0 - v * w) (drop (v * w) labels) ≡ rowAt w labels counts v
+unfolding rowAt part
+cut w labels counts v = rw add-sub-cancel-left refl
 
 -- ---- sound rows
 

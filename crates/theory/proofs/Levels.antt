@@ -9,10 +9,9 @@ use native.Mathlib.Decide.{ℕ-discrete}
 use native.Mathlib.Omega.{arith}
 use lib.Dec.{eqb, ltb}
 use borrow.Author.Tests.{eq-eqb, ne-eqb, lt-ltb, le-ltb, ltb-true, eqb-true}
-use Rattle.basics.specs.Places.{some}
-use Rattle.basics.proofs.Laws.{bcase, by-cases, cases, lt-or-ge, both, both-true, cond-true, cond-false, some-one, some-found}
+use Rattle.basics.specs.Places.{some, count}
+use Rattle.basics.proofs.Laws.{bcase, by-cases, cases, lt-or-ge, both, both-true, cond-true, cond-false, some-one, some-found, count-most, count-more}
 use Rattle.theory.specs.Walk.{Met, levels}
-use Rattle.theory.proofs.Counting.{count, count-most, count-more}
 use Rattle.theory.proofs.Walk.{one-walk}
 
 -- the penalty of a link where all are 1
@@ -174,8 +173,3 @@ module _ (B n : ℕ) (J : ℕ → ℕ → Bool) (P : ℕ → ℕ) (x : ℕ) (ins
   -- and the only one
   pub met-levels : (t : ℕ → ℕ) → Met B n (oneEach B J) P x t → (v : ℕ) → v < n → t v ≡ levels B n J P x n v
   met-levels t met = one-walk (λ u v p q. one-or-far B J u v (omega arith)) met levels-met
-
-  -- a frame that is met at all is met below level n
-  pub levels-below : (v : ℕ) → v < n → levels B n J P x n v < B → levels B n J P x n v < n
-  unfolding L
-  levels-below = level-below

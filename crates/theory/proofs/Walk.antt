@@ -32,16 +32,3 @@ one-walk {B} {n} {W} {P} {x} {t} {s} cost a b v p =
     lt-or-ge (s v) B
     (λ l. sym (one-below cost b a (suc (s v)) v p (omega arith) l))
     (λ l. omega (arith, a .cap v p, b .cap v p)))
-
--- only the answers for frames matter
-pub met-ext : {B n : ℕ} {W : ℕ → ℕ → ℕ} {P Q : ℕ → ℕ} {x : ℕ} {t : ℕ → ℕ} → ((u : ℕ) → u < n → P u ≡ Q u)
-    → Met B n W P x t → Met B n W Q x t
-met-ext {P = P} {Q = Q} {t = t} same a =
-    record {
-      cap = a .cap;
-      start = a .start;
-      on = λ u v p q l. a .on u v p q (omega (arith, same u p));
-      from = λ v p e g.
-          let (u, q, less, step) = a .from v p e g in
-          (u, q, omega (arith, same u q), step);
-    }

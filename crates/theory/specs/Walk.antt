@@ -1,9 +1,9 @@
 -- The walk of one hub over rows so far, whatever they are. P u is the answer for (hub, u) from the rows so far; a
 -- frame is kept exactly if it is met below that.
-use Prim.Native.Nat.{ℕ, zero, suc, _+_, _≤_, _<_, min}
+use Prim.Native.Nat.{ℕ, zero, suc, _+_, _≤_, _<_}
 use mathlib.Core.Path.{_≡_}
 use mathlib.Core.Bool.{Bool, cond, _&&_}
-use mathlib.Core.List.{List, [], _∷_, _++_}
+use mathlib.Core.List.{[]}
 use lib.Dec.{eqb, ltb}
 use Rattle.basics.specs.Places.{some}
 use Rattle.theory.specs.Rows.{Row, answer, keep}

@@ -1,37 +1,66 @@
--- The row lent to `near` is the used part of u's row, and its ranks have notes.
+-- The part lent to `near` is u's row, and its ranks have notes.
+use Prim.Native.Nat.{ℕ}
 use mathlib.Core.Path.{ap, _∙_}
 use mathlib.Core.List.{List}
-use Prim.Native.Nat.{ℕ}
 use native.Mathlib.Omega.{arith}
 use borrow.Author.Needs.{needs}
+use Rattle.rows.proofs.Laws.{cut}
 use Rattle.build.specs.Explore.{within, drops}
-use Rattle.build.proofs.DropRow.{row-is, row-noted}
+use Rattle.build.proofs.DropRow.{row-start, row-end, row-noted}
 use Rattle.build.proofs.explore.dropped.Statement.{statement}
 use Rattle.build.proofs.explore.dropped.Tie as tie
 
-mul-count : tie.Need-mul-count
-mul-count c = search needs
+mul-start : tie.Need-mul-start
+mul-start c = record { fits = omega (arith, row-start (c .before .before .before .pre)) }
 
-shared-slice-read-count : tie.Need-shared-slice-read-count
-shared-slice-read-count c = search needs
+mul-end : tie.Need-mul-end
+mul-end c = search needs
 
-cast-count : tie.Need-cast-count
-cast-count c = omega (arith, c .shared-slice-known4 .given (c .before .before .before .before .args .u))
+shared-slice-read-end : tie.Need-shared-slice-read-end
+shared-slice-read-end c = search needs
 
-row-part-requires : tie.Need-row-part-requires
-row-part-requires c κs = search needs
+cast-end : tie.Need-cast-end
+cast-end c = omega (arith, c .shared-slice-known4 .given (c .before .before .before .before .args .u))
+
+add-end : tie.Need-add-end
+add-end c = omega (arith, row-end (c .before .before .before .before .pre))
+
+mul-near : tie.Need-mul-near
+mul-near c = record { fits = omega (arith, row-start (c .before .before .before .before .pre)) }
+
+sub-near : tie.Need-sub-near
+sub-near c = search needs
+
+part-near-start : tie.Need-part-near-start
+part-near-start c = search needs
+
+part-near-end : tie.Need-part-near-end
+part-near-end c = row-end (c .before .before .before .before .pre)
 
 near-requires : tie.Need-near-requires
-near-requires c κs = row-noted (c .before .before .before .before .before .pre) _ (c .row-part .ensures .0)
+near-requires c κs =
+    let s = c .before .before .before .before .before in
+    row-noted (s .pre) (cut (s .args .w) (s .args .labels .now) (s .args .counts .now) (s .args .u))
 
 returns : tie.Need-returns
 unfolding drops
 returns c =
-    let s = c .before .before .before .before .before .before in
+    let a = c .before .before .before .before .before .before .args in
     c .near .ensures
-    ∙ ap (λ (row : List ℕ). within (s .args .noted .now) row (s .args .level)) (c .before .row-part .ensures .0 ∙ row-is (s .pre))
+    ∙ ap (λ (row : List ℕ). within (a .noted .now) row (a .level)) (cut (a .w) (a .labels .now) (a .counts .now) (a .u))
 
 pub dropped-spec : {M : Type 1} → statement M
 dropped-spec =
     tie.close
-    (tie.spec mul-count shared-slice-read-count cast-count row-part-requires near-requires returns)
+    (tie.spec
+    mul-start
+    mul-end
+    shared-slice-read-end
+    cast-end
+    add-end
+    mul-near
+    sub-near
+    part-near-start
+    part-near-end
+    near-requires
+    returns)

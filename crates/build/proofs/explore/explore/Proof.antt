@@ -1,38 +1,56 @@
 -- The notes are made of the hub's row, the walk goes by them, and forgetting the row brings the table back.
 use native.Mathlib.Omega.{arith}
 use borrow.Author.Needs.{needs}
-use Rattle.build.proofs.BfsWalk.{note-in, spread-in, forget-in, notes-back, room-is}
+use Rattle.rows.proofs.Laws.{cut}
+use Rattle.build.proofs.BfsEnd.{bfs-low}
+use Rattle.build.proofs.BfsWalk.{hub-row, note-in, spread-in, forget-in, notes-back, room-is}
+use Rattle.build.proofs.DropRow.{row-start, row-end}
 use Rattle.build.proofs.explore.explore.Statement.{statement}
 use Rattle.build.proofs.explore.explore.Tie as tie
 
-mul-count : tie.Need-mul-count
-mul-count c = search needs
+mul-start : tie.Need-mul-start
+mul-start c = record { fits = omega (arith, row-start (hub-row (c .before .before .before .before .before .before .before .pre))) }
 
-shared-slice-read-count : tie.Need-shared-slice-read-count
-shared-slice-read-count c = search needs
+mul-end : tie.Need-mul-end
+mul-end c = search needs
 
-cast-count : tie.Need-cast-count
-cast-count c = omega (arith, c .shared-slice-known5 .given (c .before .before .before .before .before .before .before .before .args .hub))
+shared-slice-read-end : tie.Need-shared-slice-read-end
+shared-slice-read-end c = search needs
 
-row-part-requires : tie.Need-row-part-requires
-row-part-requires c κs = search needs
+cast-end : tie.Need-cast-end
+cast-end c = omega (arith, c .shared-slice-known5 .given (c .before .before .before .before .before .before .before .before .args .hub))
+
+add-end : tie.Need-add-end
+add-end c = omega (arith, row-end (hub-row (c .before .before .before .before .before .before .before .before .pre)))
+
+mul-own : tie.Need-mul-own
+mul-own c = record { fits = omega (arith, row-start (hub-row (c .before .before .before .before .before .before .before .before .pre))) }
+
+sub-own : tie.Need-sub-own
+sub-own c = search needs
+
+part-own-start : tie.Need-part-own-start
+part-own-start c = search needs
+
+part-own-end : tie.Need-part-own-end
+part-own-end c = row-end (hub-row (c .before .before .before .before .before .before .before .before .pre))
 
 note-requires : tie.Need-note-requires
 note-requires c κs =
-    let p = c .before in
-    note-in (p .before .before .before .before .before .before .before .before .before .pre) (p .row-part .ensures .0)
+    let s = c .before .before .before .before .before .before .before .before .before .before in
+    note-in (s .pre) (cut (s .args .w) (s .args .labels .now) (s .args .counts .now) (s .args .hub))
 
 spread-requires : tie.Need-spread-requires
 spread-requires c κs =
     let m = c .before .before .before .before .before in
-    let p = m .before .before in
-    spread-in (p .before .before .before .before .before .before .before .before .before .pre) (p .row-part .ensures .0) (m .note .ensures)
+    let s = m .before .before .before .before .before .before .before .before .before .before .before in
+    spread-in (s .pre) (cut (s .args .w) (s .args .labels .now) (s .args .counts .now) (s .args .hub)) (m .note .ensures)
 
 forget-requires : tie.Need-forget-requires
 forget-requires c κs =
     let m = c .before .before .before .before .before .before .before .before .before .before .before in
-    let p = m .before .before in
-    forget-in (p .before .before .before .before .before .before .before .before .before .pre) (p .row-part .ensures .0) (m .note .ensures)
+    let s = m .before .before .before .before .before .before .before .before .before .before .before in
+    forget-in (s .pre) (cut (s .args .w) (s .args .labels .now) (s .args .counts .now) (s .args .hub)) (m .note .ensures)
 
 same-length : tie.Need-same-length
 same-length c = search needs
@@ -48,20 +66,25 @@ returns c =
     let f = c .before .before in
     let k = f .before .before .before .before .before .before in
     let m = k .before .before .before .before .before .before in
-    let p = m .before .before in
-    let e = p .before .before .before .before .before .before .before .before .before .pre in (
-      notes-back e (p .row-part .ensures .0) (m .note .ensures) (f .forget .ensures),
-      (room-is e (p .row-part .ensures .0) (m .note .ensures) (k .spread .ensures), k .spread .ensures .line .is),
+    let s = m .before .before .before .before .before .before .before .before .before .before .before in
+    let own = cut (s .args .w) (s .args .labels .now) (s .args .counts .now) (s .args .hub) in (
+      notes-back (s .pre) own (m .note .ensures) (f .forget .ensures),
+      (room-is (s .pre) own (m .note .ensures) (k .spread .ensures), (k .spread .ensures .line .is, bfs-low (k .spread .ensures))),
     )
 
 pub explore-spec : {M : Type 1} → statement M
 explore-spec =
     tie.close
     (tie.spec
-    mul-count
-    shared-slice-read-count
-    cast-count
-    row-part-requires
+    mul-start
+    mul-end
+    shared-slice-read-end
+    cast-end
+    add-end
+    mul-own
+    sub-own
+    part-own-start
+    part-own-end
     note-requires
     spread-requires
     forget-requires

@@ -1,22 +1,11 @@
 -- The two parts are the used parts of the rows.
-use Prim.Native.Nat.{ℕ, _+_, _-_, _*_}
-use mathlib.Core.Path.{_≡_, refl, _∙_}
-use mathlib.Core.List.{List}
-use native.Mathlib.Nat.{add-sub-cancel-left}
-use native.Mathlib.Omega.{arith}
+use mathlib.Core.Path.{_∙_}
 use borrow.Author.Needs.{needs}
-use lib.ListN.{getD, take, drop}
 use denote.Ref.{now}
 use Rattle.rows.specs.Meetings.{meetingOf}
-use Rattle.rows.specs.Rooms.{part, rowAt}
+use Rattle.rows.proofs.Laws.{cut}
 use Rattle.rows.proofs.merge.meet.Statement.{statement}
 use Rattle.rows.proofs.merge.meet.Tie as tie
-
--- what is cut from a row's start for its count is its used part
-cut : (w : ℕ) (labels counts : List ℕ) (v : ℕ)
-    → take (v * w + getD counts v 0 - v * w) (drop (v * w) labels) ≡ rowAt w labels counts v
-unfolding rowAt part
-cut w labels counts v = rw add-sub-cancel-left refl
 
 mul-first : tie.Need-mul-first
 mul-first c = search needs
