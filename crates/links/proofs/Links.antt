@@ -1,5 +1,5 @@
--- The tests on a block of links: that sizes and lengths tested first leave tests 3 and 4, and that these passed give
--- exactly what the theory asks of a block.
+-- The tests on a block of links: that sizes and lengths tested first leave tests 3 and 4, that these passed give what the
+-- theory asks of a block, and that such a block passes.
 use Prim.Native.Nat.{ℕ, zero, suc, _+_, _-_, _≤_, _<_}
 use mathlib.Core.Path.{_≡_, refl, sym, ap, _∙_}
 use mathlib.Core.Bool.{Bool, true, false, not, _||_, _&&_, and-false, or-true}
@@ -11,7 +11,7 @@ use lib.ListN.{length, getD}
 use lib.Dec.{leb, ltb, eqb}
 use borrow.Author.Tests.{le-leb, lt-leb, lt-ltb, le-ltb, eq-eqb, ne-eqb, leb-true, leb-false, ltb-false, eqb-true, eqb-false}
 use Rattle.basics.specs.Places.{first, some}
-use Rattle.basics.proofs.Laws.{by-cases, lt-or-ge, both, both-true, either-false, either-right, neither, not-of-true, not-of-false, of-not-true, of-not-false, cond-true, cond-false, first-before, some-one, some-found, some-not, some-first, none-first}
+use Rattle.basics.proofs.Laws.{by-cases, lt-or-ge, both, both-true, either-false, either-right, neither, not-of-true, not-of-false, of-not-true, of-not-false, cond-true, cond-false, first-before, first-none, some-none, some-one, some-found, some-not, some-first, none-first}
 use Rattle.refusal.specs.Numbers.{SIZE, LENGTH, STARTS, LINKS}
 use Rattle.refusal.specs.Tests.{test, _then_, refusal}
 use Rattle.refusal.specs.declared.Verdict.the-variants.{Fine, Refused}
@@ -285,3 +285,50 @@ links-sound n S L starts lists one most room long =
       least = λ i h. omega arith;
       most = λ i h. omega arith;
     }
+
+-- ---- a block passes
+
+module _ {n : ℕ} (S L : List ℕ) (b : Block n 1 S L ones) where
+  block-starts : startsRight n S L ≡ true
+  unfolding startsRight
+  block-starts =
+      both _ _
+      (both _ _ (eq-eqb _ _ (b .front))
+      (not-of-false (some-none (falls S) 0 n (λ v low high. le-ltb _ _ (b .rise v (omega arith))))))
+      (eq-eqb _ _ (b .last))
+
+  -- a link stands above the one before it
+  block-above : (v i : ℕ) → v < n → getD S v 0 ≤ i → i < getD S (v + 1) 0 → floorOf S L v i ≤ getD L i 0
+  block-above v i h low high =
+      lt-or-ge (getD S v 0) i
+      (λ l.
+      let k : ℕ = i - 1 in
+      let next : k + 1 ≡ i = omega arith in
+      omega (
+        arith,
+        ap (floorOf S L v) next,
+        ap (λ (j : ℕ). getD L j 0) next,
+        floor-behind S L v k (omega arith),
+        b .rising v k h (omega arith) (omega arith),
+      ))
+      (λ g. omega (arith, floor-front S L v i g))
+
+  block-link : (v i : ℕ) → v < n → getD S v 0 ≤ i → i < getD S (v + 1) 0 → faultyLink n S L v i ≡ false
+  block-link v i h low high =
+      let w : ℕ = getD L i 0 in
+      let m : Link S L ones w v 1 = b .mirror v i h low high in
+      sym (link-from n S L v i)
+      ∙ link-fine n S L v (floorOf S L v i) w (b .inside v i h low high) (b .apart v i h low high)
+      (block-above v i h low high)
+      (holds-at S L w v (m .at) (m .from) (m .upto) (m .holds))
+
+  -- a block whose sizes fit passes check links
+  pub links-whole : n ≤ 4096 → length L ≤ 65536 → checkLinks n S L ≡ Fine
+  unfolding faultyList degree
+  links-whole most room =
+      let none : first (faultyList n S L) 0 n ≡ 0 + n =
+      first-none (faultyList n S L) 0 n
+      (λ v low high.
+      some-none (faultyLink n S L v) (getD S v 0) (degree S v)
+      (λ i from upto. block-link v i (omega arith) from (omega arith))) in
+      links-alone n S L (b .some) most room (b .long) ∙ tests-fine n S L n block-starts (omega arith) refl
