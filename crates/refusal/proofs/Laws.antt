@@ -1,7 +1,7 @@
 -- The laws of tests in a row: what a passed test shows, what a failed one gives, and that a verdict is told by the paper's
 -- number and place.
-use Prim.Native.Nat.{ℕ, _≤_}
-use mathlib.Core.Path.{_≡_, refl, sym, ap, subst, _∙_}
+use Prim.Native.Nat.{ℕ, _<_}
+use mathlib.Core.Path.{_≡_, refl, sym, ap, _∙_}
 use mathlib.Core.Bool.{Bool, true, false, _&&_}
 use native.Mathlib.Omega.{arith}
 use Rattle.refusal.specs.Tests.{test, _then_, refusal, numberOf, placeOf}
@@ -56,6 +56,12 @@ unfolding _then_
 then-assoc Fine b d = refl
 then-assoc (Refused r) b d = refl
 
+-- two tests with one number and place are one
+pub test-both : (a b : Bool) (number place : ℕ) → test (a && b) number place ≡ (test a number place then test b number place)
+unfolding test _then_
+test-both true b number place = refl
+test-both false b number place = refl
+
 -- by cases on a verdict, with the equation
 pub vcase {ℓ} : {C : Type ℓ} (v : Verdict) → (v ≡ Fine → C) → ((r : Refusal) → v ≡ Refused r → C) → C
 vcase Fine f g = f refl
@@ -66,31 +72,23 @@ pub told : (r s : Refusal) → numberOf (Refused r) ≡ numberOf (Refused s) →
 unfolding numberOf placeOf
 told r s p q = λ i. record { number = p i; place = q i }
 
--- success is 0, and nothing else: a refusal has a number of its own
-unfoldable pub Numbered : Verdict → Type 0
-Numbered Fine = Unit {0}
-Numbered (Refused r) = 1 ≤ r .number
+-- ---- success is 0, and nothing else
 
-pub numbered-fine : Numbered Fine
-unfolding Numbered
-numbered-fine = tt
+-- a refusal of such tests has a number
+abbrev pub Numbered : Verdict → Type 0
+Numbered v = (r : Refusal) → v ≡ Refused r → 0 < r .number
 
-pub numbered-test : (b : Bool) (number place : ℕ) → 1 ≤ number → Numbered (test b number place)
-unfolding Numbered test
-numbered-test true number place h = tt
-numbered-test false number place h = h
+pub fine-numbered : Numbered Fine
+fine-numbered r e = fine-not-refused e
 
-pub numbered-then : (v next : Verdict) → Numbered v → Numbered next → Numbered (v then next)
-unfolding Numbered _then_
-numbered-then Fine next p q = q
-numbered-then (Refused r) next p q = p
+pub test-numbered : (b : Bool) (number place : ℕ) → 0 < number → Numbered (test b number place)
+unfolding test numberOf
+test-numbered true number place h r e = fine-not-refused e
+test-numbered false number place h r e =
+    let same : number ≡ r .number = ap numberOf e in
+    omega arith
 
-pub numbered-refused : {v : Verdict} {r : Refusal} → Numbered v → v ≡ Refused r → 1 ≤ r .number
-unfolding Numbered
-numbered-refused p e = subst Numbered e p
-
--- two tests with one number and place are one
-pub test-both : (a b : Bool) (number place : ℕ) → test (a && b) number place ≡ (test a number place then test b number place)
-unfolding test _then_
-test-both true b number place = refl
-test-both false b number place = refl
+pub then-numbered : (v next : Verdict) → Numbered v → Numbered next → Numbered (v then next)
+unfolding _then_
+then-numbered Fine next p q r e = q r e
+then-numbered (Refused s) next p q r e = p r e

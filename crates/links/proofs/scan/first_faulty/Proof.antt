@@ -2,7 +2,7 @@
 -- `floor` is the least that may stand there; end - at falls. Outer: the lowest faulty frame lies from v on; n - v falls. A
 -- faulty link makes v that frame.
 use Prim.Native.Nat.{ℕ, _+_, _-_}
-use mathlib.Core.Path.{sym, _∙_}
+use mathlib.Core.Path.{sym}
 use native.Mathlib.Omega.{arith}
 use borrow.Author.Count.{falls}
 use lib.ListN.{length-replicate}

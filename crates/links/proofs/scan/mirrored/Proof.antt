@@ -1,6 +1,5 @@
 -- `links::scan::mirrored` meets its contract. A guess inside w's list that holds v shows that the list holds v; else the
 -- search of the list decides. The cursor is moved to a place behind one of the list.
-use Prim.Native.Nat.{_+_}
 use mathlib.Core.Path.{sym}
 use native.Mathlib.Omega.{arith}
 use borrow.Author.Needs.{needs}
