@@ -16,20 +16,20 @@ use Rattle.file.proofs.Bits.{val-append, num-split, num-lt}
 use Rattle.file.proofs.Pen.{drop-later}
 
 -- the first b bits of the room, with the last nb bits of `whole`, are the number x; beyond the bytes stored it is o₀
-pub record Stored (o₀ : List ℕ) (x b whole : ℕ) (o : List ℕ) (at nb : ℕ) : Type 0 where
+pub record BytesLeft (o₀ : List ℕ) (x b whole : ℕ) (o : List ℕ) (at nb : ℕ) : Type 0 where
   pub bits : 8 * at + nb ≡ b
   pub inside : b ≤ 8 * length o
   pub number : val (take at o) * 2 ^ nb + whole % 2 ^ nb ≡ x
   pub long : length o ≡ length o₀
   pub rest : drop at o ≡ drop at o₀
 
-module _ {o₀ : List ℕ} {x b whole : ℕ} {o : List ℕ} {at nb : ℕ} (s : Stored o₀ x b whole o at nb) (j : ℕ) (e : nb ≡ 8 + j) where
+module _ {o₀ : List ℕ} {x b whole : ℕ} {o : List ℕ} {at nb : ℕ} (s : BytesLeft o₀ x b whole o at nb) (j : ℕ) (e : nb ≡ 8 + j) where
   -- the next byte has a place
   pub byte-room : at < length o
   byte-room = omega (arith, s .bits, s .inside)
 
   -- it is stored
-  pub byte-step : (next : ℕ) → next ≡ at + 1 → Stored o₀ x b whole (set o at (whole / 2 ^ j % 256)) next j
+  pub byte-step : (next : ℕ) → next ≡ at + 1 → BytesLeft o₀ x b whole (set o at (whole / 2 ^ j % 256)) next j
   unfolding val
   byte-step next n =
       let q : ℕ = whole / 2 ^ j % 256 in
@@ -59,7 +59,7 @@ module _ {o : List ℕ} {p : Pen} {fs : List Field} (r : Ready o p fs) (L : ℕ)
 
   -- no byte is stored yet
   pub byte-none : {whole : ℕ} → whole ≡ p .acc * 2 ^ L + num 0 fs →
-      Stored o (num (penNum o p) fs) (penBits p + L) whole o (p .at) (p .nb + L)
+      BytesLeft o (num (penNum o p) fs) (penBits p + L) whole o (p .at) (p .nb + L)
   unfolding penNum
   byte-none {whole} e =
       let F : ℕ = val (take (p .at) o) in
@@ -79,7 +79,7 @@ module _ {o : List ℕ} {p : Pen} {fs : List Field} (r : Ready o p fs) (L : ℕ)
       }
 
   -- fewer than eight bits are left
-  pub byte-end : {whole : ℕ} {o1 : List ℕ} {at acc nb : ℕ} → Stored o (num (penNum o p) fs) (penBits p + L) whole o1 at nb →
+  pub byte-end : {whole : ℕ} {o1 : List ℕ} {at acc nb : ℕ} → BytesLeft o (num (penNum o p) fs) (penBits p + L) whole o1 at nb →
       nb < 8 → acc ≡ whole % 2 ^ nb → Put o p fs o1 (record { at = at; acc = acc; nb = nb })
   unfolding penNum
   byte-end {whole} {o1} {at} {acc} {nb} s h e =

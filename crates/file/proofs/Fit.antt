@@ -2,14 +2,14 @@
 -- has as many bytes as the paper says.
 use Prim.Native.Nat.{ℕ, _+_, _*_, _/_, _≤_, _<_}
 use mathlib.Core.Path.{_≡_, sym, subst, _∙_}
-use mathlib.Core.Bool.{true, not}
+use mathlib.Core.Bool.{true}
 use mathlib.Core.List.{List, _++_}
 use native.Mathlib.Omega.{arith}
-use borrow.Author.Tests.{le-leb, leb-true, eqb-true}
+use borrow.Author.Tests.{le-leb, leb-true}
 use lib.ListN.{length, getD}
 use lib.Dec.{leb}
-use Rattle.basics.specs.Places.{sum, first}
-use Rattle.basics.proofs.Laws.{both-true, both, first-before, of-not-false}
+use Rattle.basics.specs.Places.{sum}
+use Rattle.basics.proofs.Laws.{both-true, both}
 use Rattle.refusal.specs.Tests.{test, _then_}
 use Rattle.refusal.specs.declared.Verdict.the-variants.{Fine}
 use Rattle.refusal.proofs.Laws.{test-fine, test-held, then-fine, after-fine}
@@ -18,7 +18,7 @@ use Rattle.links.specs.Order.{orderTest}
 use Rattle.links.proofs.Order.{order-sound}
 use Rattle.rows.specs.Rooms.{Rooms, sizesFit, rowAt, soundRow, rowsTest}
 use Rattle.rows.proofs.Laws.{Sound, row-sound, row-inside}
-use Rattle.rows.proofs.RoomLaws.{Sizes, sizes-held, sizes-fit, length-row}
+use Rattle.rows.proofs.RoomLaws.{Sizes, sizes-held, sizes-fit, rows-alone, rows-sound, length-row}
 use Rattle.file.specs.Bits.{bitLen, byteLen, Legal}
 use Rattle.file.specs.Layout.{headerFields, orderFields, rowFields, rowsFields, fileFields, fileOf, lengthsFit}
 use Rattle.file.specs.Writer.{indexSizes, writeTests, Fit}
@@ -83,10 +83,7 @@ module _ (n k w : ℕ) (O labels counts : List ℕ) where
     fit-order = order-sound n O (f .once) (f .long)
 
     sound-at : (v : ℕ) → v < n → soundRow k n w labels counts v ≡ true
-    unfolding rowsTest
-    sound-at v h =
-        let e : first (λ u. not (soundRow k n w labels counts u)) 0 n ≡ n = eqb-true _ _ (test-held _ _ _ (f .sound)) in
-        of-not-false _ (first-before (λ u. not (soundRow k n w labels counts u)) 0 n v (omega arith) (omega arith))
+    sound-at = rows-sound k n w labels counts (rows-alone k n w labels counts (f .rooms) ∙ f .sound) .1
 
     pub fit-count : (v : ℕ) → v < n → getD counts v 0 ≤ w
     fit-count v h = row-sound k n w labels counts v (sound-at v h) .0

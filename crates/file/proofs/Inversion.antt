@@ -66,9 +66,9 @@ module _ (s : List ℕ) (n k : ℕ) where
 -- ---- the rows
 
 -- the bytes reach to the end of a row that is fine
-pub row-inside : (s : List ℕ) (n k w v p : ℕ) → rowTest s n k w v p ≡ Verdict.Fine → byteLen (behind s p) ≤ length s
+pub row-reaches : (s : List ℕ) (n k w v p : ℕ) → rowTest s n k w v p ≡ Verdict.Fine → byteLen (behind s p) ≤ length s
 unfolding behind
-row-inside s n k w v p e =
+row-reaches s n k w v p e =
     entries-there s n k (p + 9) 0 (fieldAt s p 9) (row-there s n k w v p e) (row-fine s n k w v p e)
 
 -- a row is short enough
@@ -126,4 +126,4 @@ module _ (s : List ℕ) (n k w : ℕ) where
         by-cases (ℕ-discrete n 0)
         (λ (q : n ≡ 0). omega arith)
         (λ q. omega (arith, order-there s n (n - 1) (order-all s n 0 n ordered (n - 1) (omega arith) (omega arith))))
-    bits-there long ordered (suc v) h = row-inside s n k w v (rowBit s n v) (rows-fine v (omega arith))
+    bits-there long ordered (suc v) h = row-reaches s n k w v (rowBit s n v) (rows-fine v (omega arith))

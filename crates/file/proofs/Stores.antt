@@ -117,7 +117,7 @@ cell-label s n w v j h k =
 -- ---- all rows
 
 -- what the rows' loop keeps: row v comes next, and filling what is left gives the whole
-pub record Stored (s : List ℕ) (n w : ℕ) (labels₀ counts₀ : List ℕ) (p base v : ℕ) (labels counts : List ℕ) : Type 0 where
+pub record RowsLeft (s : List ℕ) (n w : ℕ) (labels₀ counts₀ : List ℕ) (p base v : ℕ) (labels counts : List ℕ) : Type 0 where
   pub upto : v ≤ n
   pub bit : p ≡ rowBit s n v
   pub place : base ≡ v * w
@@ -126,10 +126,10 @@ pub record Stored (s : List ℕ) (n w : ℕ) (labels₀ counts₀ : List ℕ) (p
   pub labels-left : filled (labelAt s n w) labels base (n * w - base) ≡ filled (labelAt s n w) labels₀ 0 (n * w)
   pub counts-left : filled (countAt s n) counts v (n - v) ≡ filled (countAt s n) counts₀ 0 n
 
-pub stored-none : (s : List ℕ) (n w : ℕ) (labels counts : List ℕ) → length labels ≡ n * w → length counts ≡ n
-    → Stored s n w labels counts (32 + 12 * n) 0 0 labels counts
+pub rows-none : (s : List ℕ) (n w : ℕ) (labels counts : List ℕ) → length labels ≡ n * w → length counts ≡ n
+    → RowsLeft s n w labels counts (32 + 12 * n) 0 0 labels counts
 unfolding rowBit
-stored-none s n w labels counts e g =
+rows-none s n w labels counts e g =
     let a : n * w - 0 ≡ n * w = omega arith in
     let b : n - 0 ≡ n = omega arith in
     record {
@@ -143,15 +143,15 @@ stored-none s n w labels counts e g =
     }
 
 module _ {s : List ℕ} {n w : ℕ} {labels₀ counts₀ : List ℕ} {p base v : ℕ} {labels counts : List ℕ}
-    (asked : Rowed s n w (length labels₀) (length counts₀)) (k : Stored s n w labels₀ counts₀ p base v labels counts) (h : v < n) where
+    (asked : Rowed s n w (length labels₀) (length counts₀)) (k : RowsLeft s n w labels₀ counts₀ p base v labels counts) (h : v < n) where
   -- the row has its place
-  pub stored-room : base + w ≤ n * w
-  stored-room = omega (arith, suc-mul v w, mul-le-mul-right {m = suc v} {n = n} w (omega arith), k .place)
+  pub next-room : base + w ≤ n * w
+  next-room = omega (arith, suc-mul v w, mul-le-mul-right {m = suc v} {n = n} w (omega arith), k .place)
 
   -- its bytes are there, and its count fits
-  pub stored-row : {count : ℕ} → count ≡ fieldAt s p 9 → Row s p count w (length labels) base
+  pub next-row : {count : ℕ} → count ≡ fieldAt s p 9 → Row s p count w (length labels) base
   unfolding rowBit behind countAt
-  stored-row {count} e =
+  next-row {count} e =
       let c : count ≡ countAt s n v = e ∙ ap (λ (x : ℕ). fieldAt s x 9) (k .bit) in
       record {
         near = omega (arith, bit-near s n v, k .bit, asked .most);
@@ -160,14 +160,14 @@ module _ {s : List ℕ} {n w : ℕ} {labels₀ counts₀ : List ℕ} {p base v :
         there =
             subst (λ (x : ℕ). byteLen x ≤ length s) (ap₂ (λ (x y : ℕ). x + 9 + 24 * y) (sym (k .bit)) (sym c))
             (asked .there (suc v) (omega arith));
-        room = omega (arith, stored-room, k .labelled);
+        room = omega (arith, next-room, k .labelled);
       }
 
   -- and behind it the next row
-  pub stored-on : {count : ℕ} (m : List ℕ) → count ≡ fieldAt s p 9 → m ≡ filled (cellAt s p count base) labels base w
-      → Stored s n w labels₀ counts₀ (p + 9 + 24 * count) (base + w) (v + 1) m (set counts v count)
+  pub next-left : {count : ℕ} (m : List ℕ) → count ≡ fieldAt s p 9 → m ≡ filled (cellAt s p count base) labels base w
+      → RowsLeft s n w labels₀ counts₀ (p + 9 + 24 * count) (base + w) (v + 1) m (set counts v count)
   unfolding rowBit behind countAt
-  stored-on {count} m e g =
+  next-left {count} m e g =
       let f : ℕ → ℕ = labelAt s n w in
       let c : count ≡ countAt s n v = e ∙ ap (λ (x : ℕ). fieldAt s x 9) (k .bit) in
       let next : rowBit s n (suc v) ≡ rowBit s n (v + 1) = ap (rowBit s n) (sym (add-one v)) in
@@ -178,7 +178,7 @@ module _ {s : List ℕ} {n w : ℕ} {labels₀ counts₀ : List ℕ} {p base v :
       ap (λ (x : ℕ). cellAt s x count base j) (k .bit)
       ∙ ap₂ (λ (x y : ℕ). cellAt s (rowBit s n v) x y j) c (k .place)
       ∙ cell-label s n w v j (omega (arith, k .place)) (omega (arith, k .place))) in
-      let all : n * w - base ≡ w + (n * w - (base + w)) = omega (arith, stored-room) in
+      let all : n * w - base ≡ w + (n * w - (base + w)) = omega (arith, next-room) in
       record {
         upto = omega arith;
         bit = ap₂ (λ (x y : ℕ). x + 9 + 24 * y) (k .bit) c ∙ next;
@@ -192,10 +192,10 @@ module _ {s : List ℕ} {n w : ℕ} {labels₀ counts₀ : List ℕ} {p base v :
         counts-left = filled-on (countAt s n) counts v n h refl c ∙ k .counts-left;
       }
 
-pub stored-end : {s : List ℕ} {n w : ℕ} {labels₀ counts₀ : List ℕ} {p base v : ℕ} {labels counts : List ℕ}
-    → Stored s n w labels₀ counts₀ p base v labels counts → n ≤ v
+pub rows-stored : {s : List ℕ} {n w : ℕ} {labels₀ counts₀ : List ℕ} {p base v : ℕ} {labels counts : List ℕ}
+    → RowsLeft s n w labels₀ counts₀ p base v labels counts → n ≤ v
     → (labels ≡ filled (labelAt s n w) labels₀ 0 (n * w)) × (counts ≡ filled (countAt s n) counts₀ 0 n)
-stored-end {s} {n} {w} {labels₀} {counts₀} {p} {base} {v} {labels} {counts} k h =
+rows-stored {s} {n} {w} {labels₀} {counts₀} {p} {base} {v} {labels} {counts} k h =
     let e : v ≡ n = omega (arith, k .upto) in
     let b : base ≡ n * w = k .place ∙ ap (λ (x : ℕ). x * w) e in (
       sym (filled-end (labelAt s n w) labels base (n * w) (omega arith)) ∙ k .labels-left,

@@ -1,62 +1,60 @@
 -- The writer's outcome by cases: refused by a test on the index, refused for want of room, written.
 use Prim.Native.Nat.{ℕ, _+_, _-_, _≤_, _<_}
 use mathlib.Core.Path.{_≡_, refl, sym, ap, ap₂, _∙_}
+use mathlib.Core.Bool.{true}
 use mathlib.Core.List.{List, _++_}
 use native.Mathlib.Omega.{arith}
-use borrow.Author.Tests.{le-leb, lt-leb, leb-true}
+use borrow.Author.Tests.{le-leb, leb-true}
 use lib.ListN.{length, take, drop}
 use lib.Seq.{drop-drop, take-at, drop-at, length-take-le}
 use Rattle.basics.proofs.Laws.{both, both-true}
 use Rattle.refusal.specs.Numbers.{OUT}
-use Rattle.refusal.specs.Tests.{_then_, refusal, numberOf, placeOf}
+use Rattle.refusal.specs.Tests.{_then_, numberOf, placeOf}
 use Rattle.refusal.specs.declared.Refusal.{Refusal}
 use Rattle.refusal.specs.declared.Verdict.{Verdict}
 use Rattle.refusal.specs.declared.Verdict.the-variants.{Fine, Refused}
-use Rattle.refusal.proofs.Laws.{Numbered, test-fine, test-refused, test-held, then-fine, after-fine, after-refused, test-numbered, then-numbered, vcase, told}
+use Rattle.refusal.proofs.Laws.{Numbered, test-fine, test-held, then-fine, after-fine, after-refused, test-numbered, then-numbered, vcase, told}
 use Rattle.links.specs.Order.{orderTest}
 use Rattle.rows.specs.Rooms.{rowsTest}
 use Rattle.file.specs.Bits.{bitLen, byteLen}
 use Rattle.file.specs.Layout.{headerFields, orderFields, rowsFields, fileFields, fileOf}
-use Rattle.file.specs.Writer.{writeTests, outTest, wrote, Wrote, filled, writeOf, Fit}
+use Rattle.file.specs.Writer.{writeTests, outFits, outTest, wrote, Wrote, filledFrom, writeOf, Fit}
 use Rattle.file.specs.declared.Written.{Written}
 use Rattle.file.proofs.Bits.{bitLen-append}
 use Rattle.file.proofs.Fit.{fit}
 use Rattle.file.proofs.LayoutLaws.{header-bits}
 use Rattle.file.proofs.Packed.{packed-length}
 
--- 14 refuses
-pub out-before : (room start size : ℕ) → room < start → outTest room start size ≡ Refused (refusal OUT 0)
-unfolding outTest
-out-before room start size h = rw (lt-leb start room h) (test-refused OUT 0 refl)
+-- 14: where the file fits, and where it does not
+pub out-held : (room start size : ℕ) → outFits room start size ≡ true → (start ≤ room) × (size ≤ room - start)
+unfolding outFits
+out-held room start size e =
+    let (a, b) = both-true _ _ e in
+    (leb-true start room a, leb-true size (room - start) b)
 
-pub out-short : (room start size : ℕ) → start ≤ room → room - start < size → outTest room start size ≡ Refused (refusal OUT 0)
-unfolding outTest
-out-short room start size h l = rw (le-leb start room h, lt-leb size (room - start) l) (test-refused OUT 0 refl)
-
--- 14 passes
 pub out-fits : (room start size : ℕ) → start ≤ room → size ≤ room - start → outTest room start size ≡ Fine
-unfolding outTest
+unfolding outTest outFits
 out-fits room start size h l = test-fine OUT 0 (both _ _ (le-leb start room h) (le-leb size (room - start) l))
 
 module _ (n k w : ℕ) (O labels counts out : List ℕ) (start : ℕ) where
   pub write-refused : {r : Refusal} → writeTests n k w O labels counts ≡ Refused r →
       writeOf n k w O labels counts out start ≡ wrote (Written.Refused r) out
-  unfolding writeOf filled
-  write-refused e = ap (λ (t : Verdict). filled t out start (fileOf n k w O labels counts)) (after-refused _ e)
+  unfolding writeOf filledFrom
+  write-refused e = ap (λ (t : Verdict). filledFrom t out start (fileOf n k w O labels counts)) (after-refused _ e)
 
   pub write-out : {r : Refusal} → writeTests n k w O labels counts ≡ Fine →
       outTest (length out) start (length (fileOf n k w O labels counts)) ≡ Refused r →
       writeOf n k w O labels counts out start ≡ wrote (Written.Refused r) out
-  unfolding writeOf filled
-  write-out e d = ap (λ (t : Verdict). filled t out start (fileOf n k w O labels counts)) (after-fine _ e ∙ d)
+  unfolding writeOf filledFrom
+  write-out e d = ap (λ (t : Verdict). filledFrom t out start (fileOf n k w O labels counts)) (after-fine _ e ∙ d)
 
   pub write-filled : writeTests n k w O labels counts ≡ Fine →
       outTest (length out) start (length (fileOf n k w O labels counts)) ≡ Fine →
       let file : List ℕ = fileOf n k w O labels counts in
       writeOf n k w O labels counts out start
       ≡ wrote (Written.Bytes (length file)) (take start out ++ (file ++ drop (start + length file) out))
-  unfolding writeOf filled
-  write-filled e d = ap (λ (t : Verdict). filled t out start (fileOf n k w O labels counts)) (after-fine _ e ∙ d)
+  unfolding writeOf filledFrom
+  write-filled e d = ap (λ (t : Verdict). filledFrom t out start (fileOf n k w O labels counts)) (after-fine _ e ∙ d)
 
 -- the stretch put back into the room
 pub put-back : (out file : List ℕ) (start m : ℕ) → m ≡ length file →
@@ -93,10 +91,10 @@ module _ (n k w : ℕ) (O labels counts out : List ℕ) (start : ℕ) where
 
   out-start : outTest (length out) start (length (fileOf n k w O labels counts)) ≡ Fine → start ≤ length out
   unfolding outTest
-  out-start e = leb-true _ _ (both-true _ _ (test-held _ OUT 0 e) .0)
+  out-start e = out-held _ _ _ (test-held _ OUT 0 e) .0
 
   pub write-done : (bytes : ℕ) (room : List ℕ) → wrote (Written.Bytes bytes) room ≡ writeOf n k w O labels counts out start → Done bytes room
-  unfolding wrote writeOf filled
+  unfolding wrote writeOf filledFrom
   write-done bytes room e =
       let file : List ℕ = fileOf n k w O labels counts in
       vcase (writeTests n k w O labels counts then outTest (length out) start (length file))
@@ -112,7 +110,7 @@ module _ (n k w : ℕ) (O labels counts out : List ℕ) (start : ℕ) where
         holds = ap (λ (t : Wrote). t .room) d;
       })
       (λ r f.
-      let d : wrote (Written.Bytes bytes) room ≡ wrote (Written.Refused r) out = e ∙ ap (λ (t : Verdict). filled t out start file) f in
+      let d : wrote (Written.Bytes bytes) room ≡ wrote (Written.Refused r) out = e ∙ ap (λ (t : Verdict). filledFrom t out start file) f in
       let z : 0 ≡ r .number = ap (λ (t : Wrote). t .number) d in
       absurd (omega (arith, write-numbered r f)))
 
@@ -127,7 +125,7 @@ module _ (n k w : ℕ) (O labels counts out : List ℕ) (start : ℕ) where
 
   -- the paper's numbers tell the answers of the writer apart
   shown : 0 < writeOf n k w O labels counts out start .number + writeOf n k w O labels counts out start .bytes
-  unfolding wrote writeOf filled
+  unfolding wrote writeOf filledFrom
   shown =
       let file : List ℕ = fileOf n k w O labels counts in
       vcase (writeTests n k w O labels counts then outTest (length out) start (length file))

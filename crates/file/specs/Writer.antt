@@ -26,9 +26,13 @@ writeTests n k w O labels counts =
     then orderTest n O
     then rowsTest k n w labels counts
 
+-- a start inside the room, and from there to its end as many bytes as the file has
+unfoldable pub outFits : ℕ → ℕ → ℕ → Bool
+outFits room start size = leb start room && leb size (room - start)
+
 -- 14: start past the room's end, or fewer bytes from there to the end than the file has
 unfoldable pub outTest : ℕ → ℕ → ℕ → Verdict
-outTest room start size = test (leb start room && leb size (room - start)) OUT 0
+outTest room start size = test (outFits room start size) OUT 0
 
 -- the paper's numbers of an answer, and what the output room then holds
 pub record Wrote : Type 0 where
@@ -43,16 +47,16 @@ wrote (Written.Bytes filled) room = record { number = 0; place = 0; bytes = fill
 wrote (Written.Refused r) room = record { number = r .number; place = r .place; bytes = 0; room = room }
 
 -- the file fills a stretch of the room from `start` on, bytes outside it stay; as lent where the tests refuse
-unfoldable pub filled : Verdict → List ℕ → ℕ → List ℕ → Wrote
-filled Verdict.Fine out start file =
+unfoldable pub filledFrom : Verdict → List ℕ → ℕ → List ℕ → Wrote
+filledFrom Verdict.Fine out start file =
     wrote (Written.Bytes (length file)) (take start out ++ (file ++ drop (start + length file) out))
-filled (Verdict.Refused r) out start file = wrote (Written.Refused r) out
+filledFrom (Verdict.Refused r) out start file = wrote (Written.Refused r) out
 
 -- the writer
 unfoldable pub writeOf : ℕ → ℕ → ℕ → List ℕ → List ℕ → List ℕ → List ℕ → ℕ → Wrote
 writeOf n k w O labels counts out start =
     let file : List ℕ = fileOf n k w O labels counts in
-    filled (writeTests n k w O labels counts then outTest (length out) start (length file)) out start file
+    filledFrom (writeTests n k w O labels counts then outTest (length out) start (length file)) out start file
 
 -- an index that the tests let through
 pub record Fit (n k w : ℕ) (O labels counts : List ℕ) : Type 0 where

@@ -56,14 +56,8 @@ pub fn write(
         return Written::Refused(r);
     }
     let size = writer::size(n, counts);
-    let room = out.len();
-    if room < start {
-        return Written::Refused(Refusal {
-            number: refusal::OUT,
-            place: 0,
-        });
-    }
-    if room - start < size {
+    let fits = writer::out_fits(out.len(), start, size);
+    if !fits {
         return Written::Refused(Refusal {
             number: refusal::OUT,
             place: 0,

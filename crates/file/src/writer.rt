@@ -5,7 +5,7 @@ ghost use Prim.Native.Nat.{_+_, _*_, _/_, _≤_};
 ghost use lib.ListN.{length};
 ghost use Rattle.basics.specs.Places.{sum};
 ghost use Rattle.file.specs.Layout.{fileOf};
-ghost use Rattle.file.specs.Writer.{indexSizes, writeTests, Fit};
+ghost use Rattle.file.specs.Writer.{indexSizes, writeTests, outFits, Fit};
 use crate::put;
 use crate::put::Pen;
 use crate::rooms;
@@ -52,6 +52,16 @@ pub fn tests(
         return once;
     };
     check::check_rows(k, n, w, labels, counts)
+}
+
+// Whether an output room has the file's bytes from `start` on.
+pub fn out_fits(room: usize, start: usize, size: usize) -> bool
+    ensures { λ r. ⌜ r ≡ outFits room start size ⌝ }
+{
+    if room < start {
+        return false;
+    }
+    size <= room - start
 }
 
 // The bytes that the file has: 4 for the header, and 21 bits for each frame and 24 for each entry, rounded up.

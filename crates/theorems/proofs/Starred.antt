@@ -32,7 +32,7 @@ use Rattle.build.specs.Build.{
 }
 use Rattle.file.specs.Bits.{bitLen, num, bytesOf, byteLen, padLen, packed}
 use Rattle.file.specs.Layout.{headerFields, orderFields, entryFields, rowFields, rowsFields, fileFields, fileOf, lengthsFit}
-use Rattle.file.specs.Writer.{indexSizes, writeTests, outTest, wrote, filled, writeOf}
+use Rattle.file.specs.Writer.{indexSizes, writeTests, outFits, outTest, wrote, filledFrom, writeOf}
 use Rattle.theorems.specs.Starred.{asked, chainTo, ring, threeTo, one, Starred}
 
 -- each of the four frames
@@ -52,7 +52,7 @@ unfolding chainTo ring threeTo one first some least table sum test _then_
     meetingsAt meetings goesBefore lesserOf leastFrom meetingOf pairTests answered pairOf
     labelsOf countsOf buildSizes buildRooms buildTests fullAt farFrame farAt stopAt walksTest afterWalks afterTests buildOf
     bitLen num bytesOf byteLen padLen packed headerFields orderFields entryFields rowFields rowsFields fileFields fileOf
-    lengthsFit indexSizes writeTests outTest wrote filled writeOf
+    lengthsFit indexSizes writeTests outFits outTest wrote filledFrom writeOf
 starred =
     record {
       chain-order = refl;

@@ -4,17 +4,20 @@ use Prim.Native.Nat.{ℕ, _+_, _-_, _≤_}
 use mathlib.Core.Path.{_≡_, sym, ap, ap₂, subst, _∙_}
 use mathlib.Core.List.{List, _++_}
 use native.Mathlib.Omega.{arith}
-use native.Mathlib.Nat.{add-sub-cancel-left, lt-of-lt-of-le, le-of-eq, le-trans}
+use native.Mathlib.Nat.{add-sub-cancel-left, le-of-eq, le-trans}
 use borrow.Author.Needs.{needs}
+use borrow.Author.Tests.{not-true, not-false}
 use denote.Ref.{now}
 use lib.ListN.{length, take, drop, length-drop}
 use lib.Seq.{length-take-le}
+use Rattle.refusal.specs.Numbers.{OUT}
 use Rattle.refusal.specs.declared.Verdict.the-variants.{Fine}
+use Rattle.refusal.proofs.Laws.{test-refused}
 use Rattle.file.specs.Layout.{fileOf}
-use Rattle.file.specs.Writer.{writeTests, wrote, Fit}
+use Rattle.file.specs.Writer.{writeTests, outFits, outTest, wrote, Fit}
 use Rattle.file.specs.declared.Written.{Written}
 use Rattle.file.proofs.Fit.{fit, file-bytes}
-use Rattle.file.proofs.Writing.{out-before, out-short, out-fits, write-refused, write-out, write-filled, put-back}
+use Rattle.file.proofs.Writing.{out-held, out-fits, write-refused, write-out, write-filled, put-back}
 use Rattle.file.proofs.write.Statement.{statement}
 use Rattle.file.proofs.write.Tie as tie
 
@@ -65,42 +68,53 @@ enum-told c = search needs
 size-requires : tie.Need-size-requires
 size-requires c κs = let f = passed c in (f .rooms .frames, omega (arith, f .rooms .each, f .rooms .frames))
 
-returns-2 : tie.Need-returns-2
-returns-2 c = sym (write-out _ _ _ _ _ _ _ _ (fine (c .before .before)) (out-before _ _ _ (c .if1 .taken)))
+out-fits-requires : tie.Need-out-fits-requires
+out-fits-requires c κs = search needs
 
-returns-3 : tie.Need-returns-3
-returns-3 c =
-    sym (write-out _ _ _ _ _ _ _ _ (fine (c .before .before .before))
-    (out-short _ _ _ (c .before .if1 .left) (lt-of-lt-of-le (c .if2 .taken) (le-of-eq (bytes (c .before .before))))))
+returns-2 : tie.Need-returns-2
+unfolding outTest
+returns-2 c =
+    let o = c .before in
+    let s = o .before in
+    sym (write-out _ _ _ _ _ _ _ _ (fine (s .before)) (test-refused OUT 0
+    (ap (outFits _ _) (sym (bytes s)) ∙ sym (o .out-fits .ensures) ∙ not-true _ (c .if1 .taken))))
+
+-- the stretch lies in the room
+inside : (c : tie.Else1) →
+    let a = c .before .before .before .before .before .before .before .before .before .before .args in
+    (a .start ≤ length (now (a .out))) × (c .before .before .size .result ≤ length (now (a .out)) - a .start)
+inside c = out-held _ _ _ (sym (c .before .out-fits .ensures) ∙ not-false _ (c .if1 .left))
 
 add-end : tie.Need-add-end
-add-end c = search needs
+add-end c = omega (arith, inside c)
 
 sub-fill : tie.Need-sub-fill
 sub-fill c = search needs
 
 part-fill-start : tie.Need-part-fill-start
-part-fill-start c = search needs
+part-fill-start c = omega (arith, inside c)
 
 part-fill-end : tie.Need-part-fill-end
-part-fill-end c = search needs
+part-fill-end c = omega (arith, inside c)
 
 fill-requires : tie.Need-fill-requires
 fill-requires c κs =
-    let s = c .before .before .before in
-    (passed (s .before), stretch _ _ _ (c .before .before .if1 .left) (c .before .if2 .left) ∙ bytes s)
+    let e = c .before in
+    let s = e .before .before in
+    let (h, l) = inside e in
+    (passed (s .before), stretch _ _ _ h l ∙ bytes s)
 
 same-length : tie.Need-same-length
 same-length c = search needs
 
-returns-4 : tie.Need-returns-4
-returns-4 c =
-    let s = c .before .before .before .before .before .before in
+returns-3 : tie.Need-returns-3
+returns-3 c =
+    let e = c .before .before .before .before in
+    let s = e .before .before in
+    let (h, l) = inside e in
     let a = s .before .before .before .before .before .before .before .before .args in
     back (now (a .out)) _ _ (a .start) (s .size .result) (c .before .before .fill .ensures) (bytes s)
-    ∙ sym (write-filled _ _ _ _ _ _ _ _ (fine (s .before))
-    (out-fits _ _ _ (c .before .before .before .before .before .if1 .left)
-    (le-trans (le-of-eq (sym (bytes s))) (c .before .before .before .before .if2 .left))))
+    ∙ sym (write-filled _ _ _ _ _ _ _ _ (fine (s .before)) (out-fits _ _ _ h (le-trans (le-of-eq (sym (bytes s))) l)))
 
 pub write-spec : {M : Type 1} → statement M
 write-spec =
@@ -111,12 +125,12 @@ write-spec =
     returns
     enum-told
     size-requires
+    out-fits-requires
     returns-2
-    returns-3
     add-end
     sub-fill
     part-fill-start
     part-fill-end
     fill-requires
     same-length
-    returns-4)
+    returns-3)

@@ -35,19 +35,19 @@ verdict-requires c κs = tt
 
 returns : tie.Need-returns Inv-loop μ-loop
 returns c =
-    c .verdict .ensures ∙ verdict-refused (c .before .enum-told .given .1)
-    ∙ sym (entries-stop _ _ _ _ _ _ (c .before .before .before .before .loop-test .taken) (stopped _ _ (sym
-    (c .before .enum-told .given .1) ∙ c .before .before .before .entry .ensures)))
-    ∙ c .before .before .before .before .before .loop .inv .2
+    let g = c .before .enum-told .given .1 in
+    let r = c .before .before .before in
+    let t = r .before in
+    c .verdict .ensures ∙ verdict-refused g
+    ∙ sym (entries-stop _ _ _ _ _ _ (t .loop-test .taken) (stopped _ _ (sym g ∙ r .entry .ensures)))
+    ∙ t .before .loop .inv .2
 
 add-low : tie.Need-add-low Inv-loop μ-loop
 add-low c =
-    let (e, q) = went-on _ _ (sym (c .before .got .given .1) ∙ c .before .before .before .entry .ensures) in
-    omega (
-      arith,
-      field-lt (c .before .before .before .before .before .before .before .args .bytes .now)
-          (c .before .before .before .before .before .loop .at) 12,
-    )
+    let r = c .before .before .before in
+    let l = r .before .before in
+    let (e, q) = went-on _ _ (sym (c .before .got .given .1) ∙ r .entry .ensures) in
+    omega (arith, field-lt (l .before .before .args .bytes .now) (l .loop .at) 12)
 
 add-at : tie.Need-add-at Inv-loop μ-loop
 add-at c = omega arith
@@ -60,12 +60,10 @@ loop-less c = omega arith
 
 loop-again : tie.Need-loop-again Inv-loop μ-loop
 loop-again c =
-    let (e, q) = went-on _ _ (sym (c .before .got .given .1) ∙ c .before .before .before .entry .ensures) in (
-      omega arith,
-      omega arith,
-      entries-on _ _ _ _ _ _ _ (c .before .before .before .before .loop-test .taken) e q ∙
-          c .before .before .before .before .before .loop .inv .2,
-    )
+    let r = c .before .before .before in
+    let t = r .before in
+    let (e, q) = went-on _ _ (sym (c .before .got .given .1) ∙ r .entry .ensures) in
+    (omega arith, omega arith, entries-on _ _ _ _ _ _ _ (t .loop-test .taken) e q ∙ t .before .loop .inv .2)
 
 returns-2 : tie.Need-returns-2 Inv-loop μ-loop
 returns-2 c = sym (entries-end _ _ _ _ _ _ (omega arith)) ∙ c .before .loop .inv .2

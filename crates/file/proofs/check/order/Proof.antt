@@ -39,10 +39,12 @@ verdict-requires c κs = tt
 
 returns : tie.Need-returns Inv-loop μ-loop
 returns c =
-    c .verdict .ensures ∙ verdict-refused (c .before .enum-told2 .given .1)
-    ∙ sym (order-stop _ _ _ (c .before .before .before .before .before .before .loop-test .taken) (stopped _ _ (sym
-    (c .before .enum-told2 .given .1) ∙ c .before .before .before .before .order-field .ensures .0)))
-    ∙ c .before .before .before .before .before .before .before .loop .inv .2
+    let g = c .before .enum-told2 .given .1 in
+    let f = c .before .before .before .before in
+    let t = f .before .before in
+    c .verdict .ensures ∙ verdict-refused g
+    ∙ sym (order-stop _ _ _ (t .loop-test .taken) (stopped _ _ (sym g ∙ f .order-field .ensures .0)))
+    ∙ t .before .loop .inv .2
 
 add-r : tie.Need-add-r Inv-loop μ-loop
 add-r c = omega arith
@@ -52,13 +54,10 @@ loop-less c = omega arith
 
 loop-again : tie.Need-loop-again Inv-loop μ-loop
 loop-again c =
-    let (e, q) = went-on _ _ (sym (c .enum-told .given .1) ∙ c .before .before .before .order-field .ensures .0) in (
-      omega arith,
-      c .before .before .before .order-field .ensures .1 e,
-      order-on _ _ _
-          (c .before .before .before .before .before .loop-test .taken) e ∙
-          c .before .before .before .before .before .before .loop .inv .2,
-    )
+    let f = c .before .before .before in
+    let t = f .before .before in
+    let (e, q) = went-on _ _ (sym (c .enum-told .given .1) ∙ f .order-field .ensures .0) in
+    (omega arith, f .order-field .ensures .1 e, order-on _ _ _ (t .loop-test .taken) e ∙ t .before .loop .inv .2)
 
 returns-2 : tie.Need-returns-2 Inv-loop μ-loop
 returns-2 c = sym (order-end _ _ _ (omega arith)) ∙ c .before .loop .inv .2

@@ -32,37 +32,30 @@ returns : tie.Need-returns
 unfolding frameAt
 returns c =
     let g = c .enum-told .given .1 in
-    let o = order-short _ (c .before .before .before .before .before .args .n)
-    (c .before .before .before .before .before .args .r) (stopped _ _ (sym g ∙ c .before .before .field .ensures)) in
+    let a = c .before .before .before .before .before .args in
+    let o = order-short _ (a .n) (a .r) (stopped _ _ (sym g ∙ c .before .before .field .ensures)) in
     (g ∙ step-refused _ o, λ h. fine-not-refused (sym h ∙ o))
 
 -- the field is there, this is its value, and it is small enough for the flags
-framed : (c : tie.After-known-told)
-    → (shortTest (c .before .before .before .before .before .before .args .bytes .now) (32 + 12 *
-    c .before .before .before .before .before .before .args .r) 12 ≡ Verdict.Fine)
-    × (c .before .got .given .0 .0 ≡ frameAt (c .before .before .before .before .before .before .args .bytes .now)
-    (c .before .before .before .before .before .before .args .r))
-    × (c .before .got .given .0 .0 < 4096)
+framed : (c : tie.After-known-told) →
+    let a = c .before .before .before .before .before .before .args in
+    let frame = c .before .got .given .0 .0 in
+    (shortTest (a .bytes .now) (32 + 12 * a .r) 12 ≡ Verdict.Fine) × (frame ≡ frameAt (a .bytes .now) (a .r)) × (frame < 4096)
 unfolding frameAt
 framed c =
-    let (e, q) = went-on _ _ (sym (c .before .got .given .1) ∙ c .before .before .before .field .ensures) in (
-      e,
-      q,
-      omega (
-        arith,
-        field-lt (c .before .before .before .before .before .before .args .bytes .now) (32 + 12 *
-            c .before .before .before .before .before .before .args .r) 12,
-      ),
-    )
+    let a = c .before .before .before .before .before .before .args in
+    let (e, q) = went-on _ _ (sym (c .before .got .given .1) ∙ c .before .before .before .field .ensures) in
+    (e, q, omega (arith, field-lt (a .bytes .now) (32 + 12 * a .r) 12))
 
 stop-requires : tie.Need-stop-requires
 stop-requires c κs = search needs
 
 returns-2 : tie.Need-returns-2
 returns-2 c =
-    let (e, q, small) = framed (c .before .before) in
-    let o = order-out _ (c .before .before .before .before .before .before .before .before .args .n)
-    (c .before .before .before .before .before .before .before .before .args .r) e (omega (arith, c .before .if1 .taken)) in
+    let f = c .before .before in
+    let a = f .before .before .before .before .before .before .args in
+    let (e, q, small) = framed f in
+    let o = order-out _ (a .n) (a .r) e (omega (arith, c .before .if1 .taken)) in
     (c .stop .ensures ∙ step-refused _ o, λ h. fine-not-refused (sym h ∙ o))
 
 slice-read-if2 : tie.Need-slice-read-if2
@@ -73,11 +66,10 @@ stop-requires-2 c κs = search needs
 
 returns-3 : tie.Need-returns-3
 returns-3 c =
-    let (e, q, small) = framed (c .before .before .before .before) in
-    let o = order-again _ (c .before .before .before .before .before .before .before .before .before .before .args .n)
-    (c .before .before .before .before .before .before .before .before .before .before .args .r) e (seen-says
-    (c .before .before .before .before .before .before .before .before .before .before .pre .2) q small
-    (c .before .if2 .taken)) in
+    let f = c .before .before .before .before in
+    let s = f .before .before .before .before .before .before in
+    let (e, q, small) = framed f in
+    let o = order-again _ (s .args .n) (s .args .r) e (seen-says (s .pre .2) q small (c .before .if2 .taken)) in
     (c .stop2 .ensures ∙ step-refused _ o, λ h. fine-not-refused (sym h ∙ o))
 
 slice-write-seen : tie.Need-slice-write-seen
@@ -88,18 +80,12 @@ same-length c = search needs
 
 returns-4 : tie.Need-returns-4
 returns-4 c =
-    let (e, q, small) = framed (c .before .before .before) in
-    let new = seen-says (c .before .before .before .before .before .before .before .before .before .pre .2) q small
-    (c .if2 .left) in
-    let o = order-legal _ (c .before .before .before .before .before .before .before .before .before .args .n)
-    (c .before .before .before .before .before .before .before .before .before .args .r) e (omega (
-      arith,
-      c .before .before .if1 .left,
-    )) new in (
-      step-fine o q,
-      λ h. seen-on (c .before .before .before .before .before .before .before .before .before .pre .2) q
-          small,
-    )
+    let f = c .before .before .before in
+    let s = f .before .before .before .before .before .before in
+    let (e, q, small) = framed f in
+    let new = seen-says (s .pre .2) q small (c .if2 .left) in
+    let o = order-legal _ (s .args .n) (s .args .r) e (omega (arith, c .before .before .if1 .left)) new in
+    (step-fine o q, λ h. seen-on (s .pre .2) q small)
 
 pub order-field-spec : {M : Type 1} → statement M
 order-field-spec =

@@ -3,7 +3,7 @@ use Prim.Native.Nat.{ℕ, _+_, _*_}
 use mathlib.Core.Path.{_≡_, sym, ap, _∙_}
 use native.Mathlib.Omega.{arith}
 use borrow.Author.Needs.{needs}
-use Rattle.file.specs.Reader.{shortTest, behind}
+use Rattle.file.specs.Reader.{shortTest, entriesFrom, rowTest, behind}
 use Rattle.refusal.specs.declared.Verdict.{Verdict}
 use Rattle.file.specs.Bits.{fieldAt}
 use Rattle.file.proofs.Fields.{row-short, row-count, row-room, row-entries}
@@ -26,11 +26,9 @@ returns c =
     g ∙ step-refused _ (row-short _ _ _ _ _ _ (stopped _ _ (sym g ∙ c .before .before .field .ensures)))
 
 -- the count's field is there, and this is its value
-counted : (c : tie.After-known-told)
-    → (shortTest (c .before .before .before .before .before .args .bytes .now)
-    (c .before .before .before .before .before .args .p) 9 ≡ Verdict.Fine)
-    × (c .before .got .given .0 .0 ≡ fieldAt (c .before .before .before .before .before .args .bytes .now)
-    (c .before .before .before .before .before .args .p) 9)
+counted : (c : tie.After-known-told) →
+    let a = c .before .before .before .before .before .args in
+    (shortTest (a .bytes .now) (a .p) 9 ≡ Verdict.Fine) × (c .before .got .given .0 .0 ≡ fieldAt (a .bytes .now) (a .p) 9)
 counted c = went-on _ _ (sym (c .before .got .given .1) ∙ c .before .before .before .field .ensures)
 
 stop-requires : tie.Need-stop-requires
@@ -46,12 +44,18 @@ stop-requires-2 c κs = search needs
 
 returns-3 : tie.Need-returns-3
 returns-3 c =
-    let (e, q) = counted (c .before .before .before) in
-    c .stop2 .ensures
-    ∙ step-refused _ (row-room _ _ _ _ _ _ e (omega (arith, c .before .before .if1 .left)) (omega (
-      arith,
-      c .before .if2 .taken,
-    )))
+    let l = c .before .before in
+    let (e, q) = counted (l .before) in
+    c .stop2 .ensures ∙ step-refused _ (row-room _ _ _ _ _ _ e (omega (arith, l .if1 .left)) (omega (arith, c .before .if2 .taken)))
+
+-- the count is legal and fits: the entries are left
+left-over : (c : tie.Else2) →
+    let a = c .before .before .before .before .before .before .before .args in
+    rowTest (a .bytes .now) (a .n) (a .k) (a .w) (a .v) (a .p)
+    ≡ entriesFrom (a .bytes .now) (a .n) (a .k) (a .p + 9) 0 (c .before .before .before .got .given .0 .0)
+left-over c =
+    let (e, q) = counted (c .before .before) in
+    row-entries _ _ _ _ _ _ e q (c .before .if1 .left) (c .if2 .left)
 
 add-at : tie.Need-add-at
 add-at c = search needs
@@ -64,12 +68,8 @@ enum-known-tested c = search needs
 
 returns-4 : tie.Need-returns-4
 returns-4 c =
-    let (e, q) = counted (c .before .before .before .before .before .before) in
-    step-refused _
-    (row-entries _ _ _ _ _ _ e q (c .before .before .before .before .before .if1 .left)
-    (c .before .before .before .before .if2 .left)
-    ∙ sym (c .before .before .before .entries .ensures)
-    ∙ c .before .tested .given .1)
+    let t = c .before .before .before in
+    step-refused _ (left-over (t .before) ∙ sym (t .entries .ensures) ∙ c .before .tested .given .1)
 
 enum-told-2 : tie.Need-enum-told-2
 enum-told-2 c = search needs
@@ -83,13 +83,11 @@ add-t14 c = search needs
 returns-5 : tie.Need-returns-5
 unfolding behind
 returns-5 c =
-    let (e, q) = counted (c .before .before .before .before .before) in
-    step-fine
-    (row-entries _ _ _ _ _ _ e q (c .before .before .before .before .if1 .left) (c .before .before .before .if2 .left)
-    ∙ sym (c .before .before .entries .ensures)
-    ∙ c .enum-told2 .given .1)
-    (ap (λ (x : ℕ). c .before .before .before .before .before .before .before .before .before .before .args .p + 9 + 24 * x)
-    q)
+    let t = c .before .before in
+    let f = t .before .before .before in
+    let a = f .before .before .before .before .before .args in
+    step-fine (left-over (t .before) ∙ sym (t .entries .ensures) ∙ c .enum-told2 .given .1)
+    (ap (λ (x : ℕ). a .p + 9 + 24 * x) (counted f .1))
 
 pub row-spec : {M : Type 1} → statement M
 row-spec =

@@ -43,10 +43,12 @@ verdict-requires c κs = tt
 
 returns : tie.Need-returns Inv-loop μ-loop
 returns c =
-    ap (whole _ _) (c .verdict .ensures ∙ verdict-refused (c .before .enum-told .given .1))
-    ∙ sym (rows-stop _ _ _ _ _ _ (c .before .before .before .before .loop-test .taken) (stopped _ _ (sym
-    (c .before .enum-told .given .1) ∙ c .before .before .before .row .ensures)))
-    ∙ c .before .before .before .before .before .loop .inv .2
+    let g = c .before .enum-told .given .1 in
+    let r = c .before .before .before in
+    let t = r .before in
+    ap (whole _ _) (c .verdict .ensures ∙ verdict-refused g)
+    ∙ sym (rows-stop _ _ _ _ _ _ (t .loop-test .taken) (stopped _ _ (sym g ∙ r .row .ensures)))
+    ∙ t .before .loop .inv .2
 
 add-v : tie.Need-add-v Inv-loop μ-loop
 add-v c = omega arith
@@ -56,15 +58,13 @@ loop-less c = omega arith
 
 loop-again : tie.Need-loop-again Inv-loop μ-loop
 loop-again c =
-    let (e, q) = went-on _ _ (sym (c .before .got .given .1) ∙ c .before .before .before .row .ensures) in (
+    let r = c .before .before .before in
+    let t = r .before in
+    let l = t .before in
+    let (e, q) = went-on _ _ (sym (c .before .got .given .1) ∙ r .row .ensures) in (
       omega arith,
-      omega (
-        arith,
-        behind-near (c .before .before .before .before .before .before .before .args .bytes .now)
-            (c .before .before .before .before .before .loop .p),
-      ),
-      rows-on _ _ _ _ _ _ (c .before .before .before .before .loop-test .taken) e q ∙
-          c .before .before .before .before .before .loop .inv .2,
+      omega (arith, behind-near (l .before .before .args .bytes .now) (l .loop .p)),
+      rows-on _ _ _ _ _ _ (t .loop-test .taken) e q ∙ l .loop .inv .2,
     )
 
 returns-2 : tie.Need-returns-2 Inv-loop μ-loop

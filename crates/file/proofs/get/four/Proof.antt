@@ -1,7 +1,8 @@
 -- The four bytes are the last bits of the bytes up to there; the field is cut out of them.
-use Prim.Native.Nat.{_+_, _/_}
+use Prim.Native.Nat.{ℕ, _+_, _/_, _<_}
 use native.Mathlib.Omega.{arith}
 use borrow.Author.Needs.{needs}
+use lib.ListN.{getD}
 use Rattle.file.proofs.Gather.{four-bytes}
 use Rattle.file.proofs.get.four.Statement.{statement}
 use Rattle.file.proofs.get.four.Tie as tie
@@ -39,29 +40,34 @@ shared-slice-read-fourth c = search needs
 cast-fourth : tie.Need-cast-fourth
 cast-fourth c = omega (arith, c .shared-slice-known4 .given (c .before .before .before .before .args .p / 8 + 3))
 
+-- each of the four is a byte
+bytes-lt : (c : tie.After-shared-slice-known4) →
+    let a = c .before .before .before .before .args in
+    let s = a .bytes .now in
+    let at = a .p / 8 in
+    (getD s at 0 < 256) × (getD s (at + 1) 0 < 256) × (getD s (at + 2) 0 < 256) × (getD s (at + 3) 0 < 256)
+bytes-lt c =
+    let at : ℕ = c .before .before .before .before .args .p / 8 in
+    let byte = c .shared-slice-known4 .given in
+    (omega (arith, byte at), omega (arith, byte (at + 1)), omega (arith, byte (at + 2)), omega (arith, byte (at + 3)))
+
 mul-sum : tie.Need-mul-sum
-mul-sum c =
-    omega (arith, c .before .before .before .shared-slice-known .given (c .before .before .before .before .args .p / 8), c .before .before .shared-slice-known2 .given (c .before .before .before .before .args .p / 8 + 1), c .before .shared-slice-known3 .given (c .before .before .before .before .args .p / 8 + 2), c .shared-slice-known4 .given (c .before .before .before .before .args .p / 8 + 3))
+mul-sum c = omega (arith, bytes-lt c)
 
 mul-sum-2 : tie.Need-mul-sum-2
-mul-sum-2 c =
-    omega (arith, c .before .before .before .shared-slice-known .given (c .before .before .before .before .args .p / 8), c .before .before .shared-slice-known2 .given (c .before .before .before .before .args .p / 8 + 1), c .before .shared-slice-known3 .given (c .before .before .before .before .args .p / 8 + 2), c .shared-slice-known4 .given (c .before .before .before .before .args .p / 8 + 3))
+mul-sum-2 c = omega (arith, bytes-lt c)
 
 add-sum : tie.Need-add-sum
-add-sum c =
-    omega (arith, c .before .before .before .shared-slice-known .given (c .before .before .before .before .args .p / 8), c .before .before .shared-slice-known2 .given (c .before .before .before .before .args .p / 8 + 1), c .before .shared-slice-known3 .given (c .before .before .before .before .args .p / 8 + 2), c .shared-slice-known4 .given (c .before .before .before .before .args .p / 8 + 3))
+add-sum c = omega (arith, bytes-lt c)
 
 mul-sum-3 : tie.Need-mul-sum-3
-mul-sum-3 c =
-    omega (arith, c .before .before .before .shared-slice-known .given (c .before .before .before .before .args .p / 8), c .before .before .shared-slice-known2 .given (c .before .before .before .before .args .p / 8 + 1), c .before .shared-slice-known3 .given (c .before .before .before .before .args .p / 8 + 2), c .shared-slice-known4 .given (c .before .before .before .before .args .p / 8 + 3))
+mul-sum-3 c = omega (arith, bytes-lt c)
 
 add-sum-2 : tie.Need-add-sum-2
-add-sum-2 c =
-    omega (arith, c .before .before .before .shared-slice-known .given (c .before .before .before .before .args .p / 8), c .before .before .shared-slice-known2 .given (c .before .before .before .before .args .p / 8 + 1), c .before .shared-slice-known3 .given (c .before .before .before .before .args .p / 8 + 2), c .shared-slice-known4 .given (c .before .before .before .before .args .p / 8 + 3))
+add-sum-2 c = omega (arith, bytes-lt c)
 
 add-sum-3 : tie.Need-add-sum-3
-add-sum-3 c =
-    omega (arith, c .before .before .before .shared-slice-known .given (c .before .before .before .before .args .p / 8), c .before .before .shared-slice-known2 .given (c .before .before .before .before .args .p / 8 + 1), c .before .shared-slice-known3 .given (c .before .before .before .before .args .p / 8 + 2), c .shared-slice-known4 .given (c .before .before .before .before .args .p / 8 + 3))
+add-sum-3 c = omega (arith, bytes-lt c)
 
 sub-rest : tie.Need-sub-rest
 sub-rest c = search needs

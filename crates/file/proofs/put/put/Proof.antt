@@ -10,7 +10,7 @@ use lib.Pow.{pow-mono, shl-exact}
 use Rattle.file.specs.declared.put.Pen.{Pen}
 use Rattle.file.specs.Bits.{bitLen, num, field}
 use Rattle.file.specs.Pen.{penNum, Ready}
-use Rattle.file.proofs.Byte.{Stored, byte-room, byte-step, whole-lt, byte-none, byte-end}
+use Rattle.file.proofs.Byte.{BytesLeft, byte-room, byte-step, whole-lt, byte-none, byte-end}
 use Rattle.file.proofs.Gather.{cut, cut-le}
 use Rattle.file.proofs.put.put.Statement.{statement}
 use Rattle.file.proofs.put.put.Tie as tie
@@ -38,7 +38,7 @@ module _ {o : List ℕ} {p : Pen} {value width : ℕ} (r : Ready o p (field valu
 
 abbrev Inv-loop : tie.InvT-loop
 Inv-loop out₀ value width at₀ held waiting whole nb₀ out at nb =
-    (nb ≤ 23) × Stored out₀ (num (penNum out₀ (record { at = at₀; acc = held; nb = waiting })) (field value width ∷ []))
+    (nb ≤ 23) × BytesLeft out₀ (num (penNum out₀ (record { at = at₀; acc = held; nb = waiting })) (field value width ∷ []))
     (8 * at₀ + waiting + width) whole out at nb
 
 abbrev μ-loop : tie.MeasureT-loop

@@ -12,7 +12,7 @@ use Rattle.file.specs.declared.put.Pen.{Pen}
 use Rattle.file.specs.Bits.{Legal, bitLen, num}
 use Rattle.file.specs.Layout.{entryFields}
 use Rattle.file.specs.Pen.{penBits, penNum, Ready, Put}
-use Rattle.file.proofs.Byte.{Stored, byte-room, byte-step, byte-none, byte-end}
+use Rattle.file.proofs.Byte.{BytesLeft, byte-room, byte-step, byte-none, byte-end}
 use Rattle.file.proofs.Gather.{cut, cut-le}
 use Rattle.file.proofs.put.put_entry.Statement.{statement}
 use Rattle.file.proofs.put.put_entry.Tie as tie
@@ -38,17 +38,23 @@ len : (e : ℕ) → bitLen (entryFields (e ∷ [])) ≡ 24
 unfolding bitLen entryFields
 len e = refl
 
-module _ (e : ℕ) {o : List ℕ} {p : Pen} {rank joins : ℕ} (r : Ready o p (entryFields (e ∷ []))) (k : rank ≡ rankOf e) (d : joins ≡ joinsOf e) where
+-- a pen with room for an entry, and its two parts
+record Given (e : ℕ) (o : List ℕ) (p : Pen) (rank joins : ℕ) : Type 0 where
+  ready : Ready o p (entryFields (e ∷ []))
+  its-rank : rank ≡ rankOf e
+  its-joins : joins ≡ joinsOf e
+
+module _ {e : ℕ} {o : List ℕ} {p : Pen} {rank joins : ℕ} (g : Given e o p rank joins) where
   rank-lt : rank < 4096
   unfolding Legal entryFields
-  rank-lt = omega (arith, r .legal .0)
+  rank-lt = omega (arith, g .ready .legal .0, g .its-rank)
 
   joins-lt : joins < 4096
   unfolding Legal entryFields
-  joins-lt = omega (arith, r .legal .1 .0)
+  joins-lt = omega (arith, g .ready .legal .1 .0, g .its-joins)
 
   held-lt : p .acc < 128
-  held-lt = lt-of-lt-of-le (r .below) (pow-mono {i = p .nb} {j = 7} (omega (arith, r .small)))
+  held-lt = lt-of-lt-of-le (g .ready .below) (pow-mono {i = p .nb} {j = 7} (omega (arith, g .ready .small)))
 
   both-lt : bothOf rank joins < 2 ^ 24
   both-lt = omega (arith, rank-lt, joins-lt)
@@ -58,23 +64,23 @@ module _ (e : ℕ) {o : List ℕ} {p : Pen} {rank joins : ℕ} (r : Ready o p (e
 
   both-is : bothOf rank joins ≡ num 0 (entryFields (e ∷ []))
   unfolding num entryFields
-  both-is = omega (arith, rank-lt, k, d)
+  both-is = omega (arith, rank-lt, g .its-rank, g .its-joins)
 
   whole-is : wholeOf (p .acc) rank joins ≡ p .acc * 2 ^ 24 + bothOf rank joins
   whole-is = omega (arith, held-lt)
 
-  none : Stored o (num (penNum o p) (entryFields (e ∷ []))) (penBits p + 24) (wholeOf (p .acc) rank joins) o (p .at) (p .nb + 24)
-  none = byte-none r 24 (len e) (whole-is ∙ ap (λ (y : ℕ). p .acc * 2 ^ 24 + y) both-is)
+  none : BytesLeft o (num (penNum o p) (entryFields (e ∷ []))) (penBits p + 24) (wholeOf (p .acc) rank joins) o (p .at) (p .nb + 24)
+  none = byte-none (g .ready) 24 (len e) (whole-is ∙ ap (λ (y : ℕ). p .acc * 2 ^ 24 + y) both-is)
 
-  one : Stored o (num (penNum o p) (entryFields (e ∷ []))) (penBits p + 24) (wholeOf (p .acc) rank joins)
+  one : BytesLeft o (num (penNum o p) (entryFields (e ∷ []))) (penBits p + 24) (wholeOf (p .acc) rank joins)
       (first o p (wholeOf (p .acc) rank joins)) (p .at + 1) (p .nb + 16)
   one = byte-step none (p .nb + 16) (omega arith) _ refl
 
-  two : Stored o (num (penNum o p) (entryFields (e ∷ []))) (penBits p + 24) (wholeOf (p .acc) rank joins)
+  two : BytesLeft o (num (penNum o p) (entryFields (e ∷ []))) (penBits p + 24) (wholeOf (p .acc) rank joins)
       (second o p (wholeOf (p .acc) rank joins)) (p .at + 2) (p .nb + 8)
   two = byte-step one (p .nb + 8) (omega arith) (p .at + 2) (omega arith)
 
-  three : Stored o (num (penNum o p) (entryFields (e ∷ []))) (penBits p + 24) (wholeOf (p .acc) rank joins)
+  three : BytesLeft o (num (penNum o p) (entryFields (e ∷ []))) (penBits p + 24) (wholeOf (p .acc) rank joins)
       (third o p (wholeOf (p .acc) rank joins)) (p .at + 3) (p .nb)
   three = byte-step two (p .nb) (omega arith) (p .at + 3) (omega arith)
 
@@ -82,13 +88,18 @@ module _ (e : ℕ) {o : List ℕ} {p : Pen} {rank joins : ℕ} (r : Ready o p (e
   last : bothOf rank joins % 2 ^ p .nb ≡ wholeOf (p .acc) rank joins % 2 ^ p .nb
   last =
       let y : ℕ = p .acc * 2 ^ 24 + bothOf rank joins in
-      let wide : 24 ≡ 24 - p .nb + p .nb = omega (arith, r .small) in
+      let wide : 24 ≡ 24 - p .nb + p .nb = omega (arith, g .ready .small) in
       sym (ap (λ (x : ℕ). x % 2 ^ p .nb) whole-is ∙ sym (mod-mod-pow y (24 - p .nb) (p .nb))
       ∙ ap (λ (j : ℕ). y % 2 ^ j % 2 ^ p .nb) (sym wide) ∙ ap (λ (x : ℕ). x % 2 ^ p .nb) (low (p .acc) 24 both-lt))
 
   put-all : Put o p (entryFields (e ∷ [])) (third o p (wholeOf (p .acc) rank joins))
       (record { at = p .at + 3; acc = bothOf rank joins - bothOf rank joins / 2 ^ p .nb * 2 ^ p .nb % 2 ^ 64; nb = p .nb })
-  put-all = byte-end r 24 (len e) three (r .small) (cut (bothOf rank joins) (p .nb) (omega (arith, both-lt)) ∙ last)
+  put-all = byte-end (g .ready) 24 (len e) three (g .ready .small) (cut (bothOf rank joins) (p .nb) (omega (arith, both-lt)) ∙ last)
+
+given : (c : tie.After-joins-of) →
+    let a = c .before .before .before .args in
+    Given (a .e) (a .out .now) (a .pen) (c .before .rank-of .result) (c .joins-of .result)
+given c = record { ready = c .before .before .before .pre; its-rank = c .before .rank-of .ensures; its-joins = c .joins-of .ensures }
 
 rank-of-requires : tie.Need-rank-of-requires
 rank-of-requires c κs = search needs
@@ -97,10 +108,10 @@ joins-of-requires : tie.Need-joins-of-requires
 joins-of-requires c κs = search needs
 
 add-both : tie.Need-add-both
-add-both c = let b = both-lt _ (c .before .before .before .pre) (c .before .rank-of .ensures) (c .joins-of .ensures) in omega arith
+add-both c = let b = both-lt (given c) in omega arith
 
 add-whole : tie.Need-add-whole
-add-whole c = record { fits = whole-fits _ (c .before .before .before .pre) (c .before .rank-of .ensures) (c .joins-of .ensures) }
+add-whole c = record { fits = whole-fits (given c) }
 
 add-first : tie.Need-add-first
 add-first c = search needs
@@ -122,7 +133,7 @@ cast-out c = search needs
 
 slice-write-out : tie.Need-slice-write-out
 slice-write-out c =
-    byte-room (none _ (c .before .before .before .pre) (c .before .rank-of .ensures) (c .joins-of .ensures))
+    byte-room (none (given c))
     (c .before .before .before .args .pen .nb + 16) (omega arith)
 
 cast-out-2 : tie.Need-cast-out-2
@@ -133,7 +144,7 @@ add-out c = search needs
 
 slice-write-out-2 : tie.Need-slice-write-out-2
 slice-write-out-2 c =
-    byte-room (one _ (c .before .before .before .pre) (c .before .rank-of .ensures) (c .joins-of .ensures))
+    byte-room (one (given c))
     (c .before .before .before .args .pen .nb + 8) (omega arith)
 
 cast-out-3 : tie.Need-cast-out-3
@@ -144,7 +155,7 @@ add-out-2 c = search needs
 
 slice-write-out-3 : tie.Need-slice-write-out-3
 slice-write-out-3 c =
-    byte-room (two _ (c .before .before .before .pre) (c .before .rank-of .ensures) (c .joins-of .ensures))
+    byte-room (two (given c))
     (c .before .before .before .args .pen .nb) (omega arith)
 
 shr-high : tie.Need-shr-high
@@ -155,7 +166,7 @@ shl-acc c = search needs
 
 sub-acc : tie.Need-sub-acc
 sub-acc c =
-    let b = both-lt _ (c .before .before .before .pre) (c .before .rank-of .ensures) (c .joins-of .ensures) in
+    let b = both-lt (given c) in
     cut-le (bothOf (c .before .rank-of .result) (c .joins-of .result)) (c .before .before .before .args .pen .nb) (omega arith)
 
 add-next : tie.Need-add-next
@@ -165,7 +176,7 @@ same-length : tie.Need-same-length
 same-length c = search needs
 
 returns : tie.Need-returns
-returns c = put-all _ (c .before .before .before .pre) (c .before .rank-of .ensures) (c .joins-of .ensures)
+returns c = put-all (given c)
 
 pub put-entry-spec : {M : Type 1} → statement M
 put-entry-spec =

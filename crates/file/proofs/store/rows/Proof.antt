@@ -1,4 +1,4 @@
--- The loop of `rows`: filling the rows and counts from frame v on gives what filling all of them gives (`Stored`). A row
+-- The loop of `rows`: filling the rows and counts from frame v on gives what filling all of them gives (`RowsLeft`). A row
 -- stored keeps that for the next frame; the frames left fall.
 use Prim.Native.Nat.{_-_}
 use mathlib.Core.Path.{refl, sym, _∙_}
@@ -6,13 +6,13 @@ use native.Mathlib.Omega.{arith}
 use lib.ListN.{length}
 use Rattle.file.specs.Bits.{byteLen}
 use Rattle.file.specs.Stores.{Row}
-use Rattle.file.proofs.Stores.{Stored, stored-none, stored-room, stored-row, stored-on, stored-end}
+use Rattle.file.proofs.Stores.{RowsLeft, rows-none, next-room, next-row, next-left, rows-stored}
 use Rattle.file.proofs.Bits.{field-lt}
 use Rattle.file.proofs.store.rows.Statement.{statement}
 use Rattle.file.proofs.store.rows.Tie as tie
 
 abbrev Inv-loop : tie.InvT-loop
-Inv-loop bytes n w labels₀ counts₀ p₀ base₀ v₀ labels counts p base v = Stored bytes n w labels₀ counts₀ p base v labels
+Inv-loop bytes n w labels₀ counts₀ p₀ base₀ v₀ labels counts p base v = RowsLeft bytes n w labels₀ counts₀ p base v labels
     counts
 
 abbrev μ-loop : tie.MeasureT-loop
@@ -25,23 +25,19 @@ add-p : tie.Need-add-p Inv-loop μ-loop
 add-p c = omega arith
 
 loop-holds : tie.Need-loop-holds Inv-loop μ-loop
-loop-holds c = stored-none _ _ _ _ _ (c .before .before .before .pre .room) (c .before .before .before .pre .counted)
+loop-holds c = rows-none _ _ _ _ _ (c .before .before .before .pre .room) (c .before .before .before .pre .counted)
 
 get-requires : tie.Need-get-requires Inv-loop μ-loop
 unfolding byteLen
 get-requires c κs =
-    let row = stored-row (c .before .before .before .before .before .pre) (c .before .loop .inv) (c .loop-test .taken) refl
-    in
+    let l = c .before in
+    let row = next-row (l .before .before .before .before .pre) (l .loop .inv) (c .loop-test .taken) refl in
     record { narrow = omega arith; near = omega (arith, row .near); there = omega (arith, row .there) }
 
 cast-counts : tie.Need-cast-counts Inv-loop μ-loop
 cast-counts c =
-    omega (
-      arith,
-      c .get .ensures,
-      field-lt (c .before .before .before .before .before .before .args .bytes .now)
-          (c .before .before .loop .p) 9,
-    )
+    let l = c .before .before in
+    omega (arith, c .get .ensures, field-lt (l .before .before .before .before .args .bytes .now) (l .loop .p) 9)
 
 mul-counts : tie.Need-mul-counts Inv-loop μ-loop
 mul-counts c = omega arith
@@ -51,20 +47,20 @@ slice-write-counts c = omega arith
 
 row-requires : tie.Need-row-requires Inv-loop μ-loop
 row-requires c κs =
-    stored-row (c .before .before .before .before .before .before .before .pre) (c .before .before .before .loop .inv)
-    (c .before .before .loop-test .taken) (c .before .get .ensures)
+    let g = c .before in
+    let l = g .before .before in
+    next-row (l .before .before .before .before .pre) (l .loop .inv) (g .before .loop-test .taken) (g .get .ensures)
 
 -- the row just stored
-stored : (c : tie.After-slice-known3 Inv-loop μ-loop)
-    → Row (c .before .before .before .before .before .before .before .before .before .before .args .bytes .now)
-    (c .before .before .before .before .before .before .loop .p) (c .before .before .before .before .get .result)
-    (c .before .before .before .before .before .before .before .before .before .before .args .w) (length
-    (c .before .before .before .before .before .before .loop .labels))
-    (c .before .before .before .before .before .before .loop .base)
+stored : (c : tie.After-slice-known3 Inv-loop μ-loop) →
+    let g = c .before .before .before .before in
+    let l = g .before .before .loop in
+    let a = g .before .before .before .before .before .before .args in
+    Row (a .bytes .now) (l .p) (g .get .result) (a .w) (length (l .labels)) (l .base)
 stored c =
-    stored-row (c .before .before .before .before .before .before .before .before .before .before .pre)
-    (c .before .before .before .before .before .before .loop .inv)
-    (c .before .before .before .before .before .loop-test .taken) (c .before .before .before .before .get .ensures)
+    let g = c .before .before .before .before in
+    let l = g .before .before in
+    next-row (l .before .before .before .before .pre) (l .loop .inv) (g .before .loop-test .taken) (g .get .ensures)
 
 add-p-2 : tie.Need-add-p-2 Inv-loop μ-loop
 add-p-2 c = omega (arith, stored c .near)
@@ -77,13 +73,9 @@ add-p-3 c = omega (arith, stored c .near, stored c .fits, stored c .wide)
 
 add-base : tie.Need-add-base Inv-loop μ-loop
 add-base c =
-    omega (
-      arith,
-      stored-room (c .before .before .before .before .before .before .before .before .before .before .pre)
-          (c .before .before .before .before .before .before .loop .inv)
-          (c .before .before .before .before .before .loop-test .taken),
-      c .before .before .before .before .before .before .before .before .before .before .pre .room,
-    )
+    let t = c .before .before .before .before .before in
+    let s = t .before .before .before .before .before in
+    omega (arith, next-room (s .pre) (t .before .loop .inv) (t .loop-test .taken), s .pre .room)
 
 add-v : tie.Need-add-v Inv-loop μ-loop
 add-v c = omega arith
@@ -93,10 +85,9 @@ loop-less c = omega arith
 
 loop-again : tie.Need-loop-again Inv-loop μ-loop
 loop-again c =
-    stored-on (c .before .before .before .before .before .before .before .before .before .before .pre)
-    (c .before .before .before .before .before .before .loop .inv)
-    (c .before .before .before .before .before .loop-test .taken) _ (c .before .before .before .before .get .ensures)
-    (c .before .before .row .ensures)
+    let g = c .before .before .before .before in
+    let l = g .before .before in
+    next-left (l .before .before .before .before .pre) (l .loop .inv) (g .before .loop-test .taken) _ (g .get .ensures) (c .before .before .row .ensures)
 
 same-length : tie.Need-same-length Inv-loop μ-loop
 same-length c = c .before .loop .inv .labelled ∙ sym (c .before .before .before .before .before .pre .room)
@@ -105,7 +96,7 @@ same-length-2 : tie.Need-same-length-2 Inv-loop μ-loop
 same-length-2 c = c .before .loop .inv .counted ∙ sym (c .before .before .before .before .before .pre .counted)
 
 returns : tie.Need-returns Inv-loop μ-loop
-returns c = stored-end (c .before .loop .inv) (omega arith)
+returns c = rows-stored (c .before .loop .inv) (omega arith)
 
 pub rows-spec : {M : Type 1} → statement M
 rows-spec =

@@ -57,8 +57,7 @@ headed : (c : tie.After-put-header) →
     (c .put-header .last .0) (c .put-header .result) (orderFields (now (a .order)) ++ rowsFields (a .w) (now (a .labels)) (now (a .counts)) 0 (a .n))
 headed c =
     let s = c .before .before .before .before .before .before in
-    let a = s .args in
-    left-step (begun (now (a .out)) (a .n) (a .k) (a .w) (now (a .order)) (now (a .labels)) (now (a .counts)) (s .pre .0) (s .pre .1)) _ _ refl (c .put-header .ensures)
+    left-step (begun _ _ _ _ _ _ _ (s .pre .0) (s .pre .1)) _ _ refl (c .put-header .ensures)
 
 ordered : (c : tie.After-put-order) →
     let a = c .before .before .before .before .before .before .before .before .before .before .args in
@@ -75,19 +74,16 @@ finished c = left-step (ordered (c .before .before .before .before)) _ [] (sym (
 put-header-requires : tie.Need-put-header-requires
 put-header-requires c κs =
     let s = c .before .before .before .before .before in
-    let a = s .args in (
-      left-ready (begun (now (a .out)) (a .n) (a .k) (a .w) (now (a .order)) (now (a .labels)) (now (a .counts)) (s .pre .0) (s .pre .1)) _ _ refl,
-      s .pre .0 .rooms .some-frames,
-    )
+    (left-ready (begun _ _ _ _ _ _ _ (s .pre .0) (s .pre .1)) _ _ refl, s .pre .0 .rooms .some-frames)
 
 put-order-requires : tie.Need-put-order-requires
 put-order-requires c κs = left-ready (headed (c .before .before .before)) _ _ refl
 
 put-rows-requires : tie.Need-put-rows-requires
 put-rows-requires c κs =
-    let s = c .before .before .before .before .before .before .before .before .before .before .before .before .before in
-    let a = s .args in
-    (ordered (c .before .before .before) .ready, fit-lies (a .n) (a .k) (a .w) (now (a .order)) (now (a .labels)) (now (a .counts)) (s .pre .0))
+    let o = c .before .before .before in
+    let s = o .before .before .before .before .before .before .before .before .before .before in
+    (ordered o .ready, fit-lies _ _ _ _ _ _ (s .pre .0))
 
 close-requires : tie.Need-close-requires
 close-requires c κs = finished (c .before .before .before) .ready
@@ -100,10 +96,7 @@ unfolding fileOf
 returns c =
     let d = c .before .before .before .before .before .before in
     let s = d .before .before .before .before .before .before .before .before .before .before .before .before .before .before in
-    let a = s .args in
-    ended (now (a .out)) (d .put-rows .last .0) (c .before .before .close .last .0) (d .put-rows .result)
-    (fileFields (a .n) (a .k) (a .w) (now (a .order)) (now (a .labels)) (now (a .counts))) (s .pre .1)
-    (left-end (finished d)) (c .before .before .close .ensures) (λ i. c .slice-known5 .given i .fits)
+    ended _ _ _ _ _ (s .pre .1) (left-end (finished d)) (c .before .before .close .ensures) (λ i. c .slice-known5 .given i .fits)
 
 pub fill-spec : {M : Type 1} → statement M
 fill-spec =
