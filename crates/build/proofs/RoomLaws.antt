@@ -1,10 +1,9 @@
 -- The label room and the count room as tables of rows: what one more entry changes, when two are the same, and that a row
 -- is read back out of them as it was put.
-use Prim.Native.Nat.{ℕ, zero, suc, _+_, _-_, _*_, _/_, _%_, _≤_, _<_}
+use Prim.Native.Nat.{ℕ, _+_, _*_, _/_, _%_, _≤_, _<_}
 use mathlib.Core.Path.{_≡_, refl, sym, ap, _∙_}
 use mathlib.Core.List.{List, [], _∷_, _++_}
-use native.Mathlib.Nat.{suc-mul, mul-le-mul-right, mod-lt, div-add-mod', div-lt-iff-lt-mul}
-use native.Mathlib.Numerals.{add-one}
+use native.Mathlib.Nat.{suc-mul, mul-le-mul-right, div-add-mod', div-lt-iff-lt-mul}
 use native.Mathlib.Decide.{ℕ-discrete}
 use native.Mathlib.Omega.{arith}
 use lib.ListN.{length, getD, set, take, drop, length-set, length-append, length-take, length-drop, List·getD-append, List·getD-eq-default}
@@ -13,7 +12,7 @@ use lib.Seq.{getD-at, getD-take, getD-drop, ext-getD}
 use Rattle.basics.specs.Places.{table}
 use Rattle.basics.proofs.Laws.{by-cases, three-ways, at-set, is-table, length-table, getD-table, table-ext}
 use Rattle.theory.specs.Rows.{Row}
-use Rattle.rows.specs.Entry.{entryOf, rankOf, joinsOf, encode, decode}
+use Rattle.rows.specs.Entry.{entryOf, encode}
 use Rattle.rows.specs.Rooms.{rowAt, part}
 use Rattle.rows.proofs.Laws.{length-encode, encode-append}
 use Rattle.build.specs.Build.{labelsOf, countsOf}

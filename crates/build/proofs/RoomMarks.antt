@@ -1,12 +1,12 @@
 -- Phase two told by the queue: a test of the queued frames is a test of all frames, and rows stored along the queue are the
 -- rows after the walk.
-use Prim.Native.Nat.{ℕ, zero, suc, _+_, _-_, _*_, _≤_, _<_}
+use Prim.Native.Nat.{ℕ, _+_, _-_, _*_, _≤_, _<_}
 use mathlib.Core.Path.{_≡_, refl, sym, ap, _∙_}
-use mathlib.Core.Bool.{Bool, true, false, cond, not, _&&_}
+use mathlib.Core.Bool.{Bool, true, false, cond, _&&_}
 use mathlib.Core.List.{List, [], _∷_, _++_}
 use native.Mathlib.Decide.{ℕ-discrete}
 use native.Mathlib.Omega.{arith}
-use borrow.Author.Tests.{lt-ltb, le-ltb, lt-leb, ltb-true, leb-true, leb-false, eq-eqb, ne-eqb, eqb-true}
+use borrow.Author.Tests.{lt-ltb, le-ltb, ltb-true, leb-false, eq-eqb, ne-eqb, eqb-true}
 use lib.ListN.{length, getD, set}
 use lib.Dec.{leb, ltb, eqb}
 use Rattle.basics.specs.Places.{some}
@@ -14,8 +14,8 @@ use Rattle.basics.proofs.Laws.{bcase, by-cases, lt-or-ge, not-both, both, both-
 use Rattle.theory.specs.Rows.{Row}
 use Rattle.rows.specs.Entry.{entryOf}
 use Rattle.build.specs.Build.{labelsOf, countsOf}
-use Rattle.build.specs.Explore.{Queued, Low}
-use Rattle.build.specs.Settle.{rowsIn, Laid, isKept, lacksRoom, isFar, fitsAll, noneFar, gain, rowsAfter, SettleIn, settleOf}
+use Rattle.build.specs.Explore.{Queued}
+use Rattle.build.specs.Settle.{rowsIn, isKept, lacksRoom, isFar, fitsAll, noneFar, gain, rowsAfter, SettleIn, settleOf}
 use Rattle.build.specs.declared.settle.Walked.the-variants.{Made, Full}
 use Rattle.build.proofs.RoomLaws.{labels-gain, counts-gain, labels-ext, counts-ext, count-at}
 
@@ -48,7 +48,7 @@ kept-room w count m e k = leb-false w count (sym (ap (λ (b : Bool). b && leb w 
 -- ---- tests along the queue
 
 -- a fault that only kept frames can have, and no queued frame has, no frame has
-module _ (met queue : List ℕ) (tail : ℕ) (q : Queued met queue tail) (bad : ℕ → Bool) where
+module _ {met queue : List ℕ} {tail : ℕ} (q : Queued met queue tail) (bad : ℕ → Bool) where
   none-bad : ((v : ℕ) → bad v ≡ true → isKept (getD met v 0) ≡ true) → ((j : ℕ) → j < tail → bad (getD queue j 0) ≡ false)
       → some bad 0 (length met) ≡ false
   none-bad only none =
@@ -63,20 +63,20 @@ module _ (met queue : List ℕ) (tail : ℕ) (q : Queued met queue tail) (bad : 
   one-bad : (j : ℕ) → j < tail → bad (getD queue j 0) ≡ true → some bad 0 (length met) ≡ true
   one-bad j h e = some-one bad 0 (length met) (getD queue j 0) (omega arith) (omega (arith, q .low j h)) e
 
-module _ (w : ℕ) (counts met queue : List ℕ) (tail : ℕ) (q : Queued met queue tail) where
+module _ (w : ℕ) (counts : List ℕ) {met queue : List ℕ} {tail : ℕ} (q : Queued met queue tail) where
   pub fits-done : ((j : ℕ) → j < tail → lacksRoom w (getD counts (getD queue j 0) 0) (getD met (getD queue j 0) 0) ≡ false)
       → fitsAll w counts met ≡ true
   unfolding fitsAll lacksRoom
   fits-done none =
       not-of-false
-      (none-bad met queue tail q (λ v. isKept (getD met v 0) && leb w (getD counts v 0))
+      (none-bad q (λ v. isKept (getD met v 0) && leb w (getD counts v 0))
       (λ v e. both-true (isKept (getD met v 0)) (leb w (getD counts v 0)) e .0) none)
 
   pub fits-not : (j : ℕ) → j < tail → lacksRoom w (getD counts (getD queue j 0) 0) (getD met (getD queue j 0) 0) ≡ true
       → fitsAll w counts met ≡ false
   unfolding fitsAll
   fits-not j h e =
-      not-of-true (one-bad met queue tail q (λ v. lacksRoom w (getD counts v 0) (getD met v 0)) j h e)
+      not-of-true (one-bad q (λ v. lacksRoom w (getD counts v 0) (getD met v 0)) j h e)
 
 pub fits-each : (w : ℕ) (counts met : List ℕ) (v : ℕ) → fitsAll w counts met ≡ true → v < length met
     → lacksRoom w (getD counts v 0) (getD met v 0) ≡ false
@@ -153,7 +153,7 @@ module _ (w rank : ℕ) (labels counts met : List ℕ) where
   unfolding rowsAfter gain
   after-not v e = cond-false _ _ e
 
-module _ (w rank : ℕ) (labels counts met queue : List ℕ) (tail : ℕ) (s : SettleIn w labels counts met queue tail)
+module _ (rank : ℕ) {w : ℕ} {labels counts met queue : List ℕ} {tail : ℕ} (s : SettleIn w labels counts met queue tail)
     (fit : fitsAll w counts met ≡ true) where
   abbrev before : ℕ → Row
   before = rowsIn w labels counts

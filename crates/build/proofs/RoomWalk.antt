@@ -1,19 +1,17 @@
 -- The met room as the first half of a walk leaves it, read by the second half: its marks say what the levels say, so what
 -- is stored are the rows after the walk.
-use Prim.Native.Nat.{ℕ, zero, suc, _+_, _-_, _*_, _≤_, _<_}
+use Prim.Native.Nat.{ℕ, _+_, _-_, _≤_, _<_}
 use mathlib.Core.Path.{_≡_, refl, sym, ap, _∙_}
-use mathlib.Core.Bool.{Bool, true, false, cond, not, _&&_}
+use mathlib.Core.Bool.{Bool, cond, not, _&&_}
 use mathlib.Core.List.{List, [], _∷_, _++_}
 use native.Mathlib.Omega.{arith}
-use borrow.Author.Tests.{lt-ltb, le-ltb, ltb-true, ltb-false}
+use borrow.Author.Tests.{lt-ltb, le-ltb, ltb-true}
 use lib.ListN.{length, getD, replicate}
 use lib.Dec.{leb, ltb}
-use Rattle.basics.specs.Places.{some, least}
 use Rattle.basics.proofs.Laws.{bcase, lt-or-ge, same-truth, cond-true, cond-false, some-ext, least-most, length-table, getD-table}
 use Rattle.theory.specs.Distance.{far}
 use Rattle.theory.specs.Rows.{Row, answer, keep}
-use Rattle.theory.specs.Walk.{levels, walkRow}
-use Rattle.theory.specs.Plain.{joined}
+use Rattle.theory.specs.Walk.{walkRow}
 use Rattle.build.specs.Build.{labelsOf, countsOf}
 use Rattle.build.specs.Walk.{soFar, levelOf, kept, mark, metRoom, walkFits}
 use Rattle.build.specs.Explore.{ExploreIn}

@@ -1,30 +1,28 @@
 -- The run of walks by the row rule: rooms that hold the rule's rows at rank r are sound and hold nothing else, the walk of
 -- rank r over them makes the rows at r + 1, and it is refused exactly where the rule's rows are over W or over 4,095 joins.
-use Prim.Native.Nat.{ℕ, zero, suc, _+_, _-_, _*_, _≤_, _<_}
-use mathlib.Core.Path.{_≡_, refl, sym, ap, subst, _∙_}
-use mathlib.Core.Bool.{Bool, true, false, cond, not, _&&_, _||_}
+use Prim.Native.Nat.{ℕ, suc, _≤_, _<_}
+use mathlib.Core.Path.{_≡_, refl, sym, ap, _∙_}
+use mathlib.Core.Bool.{Bool, cond, not, _&&_}
 use mathlib.Core.List.{List, [], _∷_, _++_}
 use native.Mathlib.Omega.{arith}
-use borrow.Author.Tests.{lt-ltb, le-ltb, ltb-true, le-leb, lt-leb, leb-true}
+use borrow.Author.Tests.{lt-ltb, le-ltb, ltb-true, le-leb, leb-true}
 use lib.ListN.{length, getD, length-append}
 use lib.Dec.{leb, ltb}
-use Rattle.basics.specs.Places.{some}
-use Rattle.basics.proofs.Laws.{bcase, same-truth, cond-true, cond-false, some-ext}
+use Rattle.basics.proofs.Laws.{bcase, same-truth, some-ext}
 use Rattle.theory.specs.Distance.{far}
 use Rattle.theory.specs.Links.{Block, Order, hubOf}
-use Rattle.theory.specs.Rows.{Row, hubs, keep, ruleRow, answer}
+use Rattle.theory.specs.Rows.{Row, hubs, keep, ruleRow}
 use Rattle.theory.specs.Walk.{walkRow}
-use Rattle.theory.specs.Plain.{ones, joined, joinsTo, rowBy}
+use Rattle.theory.specs.Plain.{ones, joinsTo, rowBy}
 use Rattle.theory.proofs.Rule.{rankAt, joinsAt, snoc-last}
 use Rattle.theory.proofs.Plain.{plain-rising, plain-places, walk-out}
-use Rattle.rows.specs.Entry.{entryOf, rankOf, decode, encode}
+use Rattle.rows.specs.Entry.{rankOf, decode}
 use Rattle.rows.specs.Rooms.{rowAt}
 use Rattle.rows.proofs.Laws.{Fits, fits-none, fits-more, decode-encode, rank-entry, getD-encode}
 use Rattle.build.specs.Build.{labelsOf, countsOf, fullAt, farFrame, farAt}
 use Rattle.build.specs.Explore.{SoundRows}
 use Rattle.build.specs.Walk.{soFar, levelOf, kept, walkFits}
 use Rattle.build.specs.Settle.{rowsIn, Laid, walkedRows, walkNear, walkOf}
-use Rattle.build.specs.declared.settle.Walked.{Walked}
 use Rattle.build.specs.declared.settle.Walked.the-variants.{Made, Full, Far}
 use Rattle.build.proofs.RoomLaws.{row-is, labels-ext, counts-ext, count-at}
 

@@ -2,10 +2,10 @@
 use crate::Built;
 use crate::rooms::clear;
 use crate::rooms::clear_labels;
-use crate::rooms::total;
 use crate::run::walks;
 use refusal::Verdict;
 use rows::entry::Entry;
+use rows::rooms::total;
 ghost use mathlib.Core.Path.{_≡_};
 ghost use lib.ListN.{length};
 ghost use Rattle.theory.specs.Plain.{rowBy};

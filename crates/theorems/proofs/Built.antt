@@ -103,8 +103,8 @@ built-tests n w k S L O labels counts met queue entries labels' counts' met' que
     build-tests.tests-fine n w k S L O _ _ _ _ (a .0) in
     let count-room : counts' ≡ countsOf n (rowBy n S L O k) = ap (λ (o : Outcome). o .counts) (b .1) in
     record {
-      frames = (p .sizes-fit .one, p .sizes-fit .frames);
-      width = (p .sizes-fit .wide, p .sizes-fit .width);
+      frames = (p .sizes-fit .fit .some-frames, p .sizes-fit .fit .frames);
+      width = (p .sizes-fit .fit .some-width, p .sizes-fit .fit .width);
       stop = p .sizes-fit .stop;
       block = p .block;
       once = order-tested n w k S L O _ _ _ _ (a .0);

@@ -38,7 +38,9 @@ mul-at : tie.Need-mul-at Inv-loop μ-loop
 mul-at c = omega (arith, c .before .pre .frame, c .before .pre .frames)
 
 shared-slice-read-at : tie.Need-shared-slice-read-at Inv-loop μ-loop
-shared-slice-read-at c = omega (arith, c .before .before .pre .frame, c .before .before .pre .block .long)
+shared-slice-read-at c =
+    let p = c .before .before .pre in
+    omega (arith, p .frame, p .block .long)
 
 cast-at : tie.Need-cast-at Inv-loop μ-loop
 cast-at c = omega (arith, c .shared-slice-known2 .given (c .before .before .args .u))

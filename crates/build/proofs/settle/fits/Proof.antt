@@ -1,11 +1,11 @@
 -- The invariant: no frame at the queue places passed lacks room. It holds again by the test of the frame at i, and it ends
 -- as i rises to the tail; the queue holds every met frame, so then no frame lacks room.
-use Prim.Native.Nat.{ℕ, _+_, _-_, _*_, _≤_, _<_}
-use mathlib.Core.Path.{_≡_, refl, sym, ap, _∙_}
-use mathlib.Core.Bool.{Bool, true, false}
+use Prim.Native.Nat.{ℕ, _-_, _≤_, _<_}
+use mathlib.Core.Path.{_≡_, sym, _∙_}
+use mathlib.Core.Bool.{false}
 use native.Mathlib.Omega.{arith}
 use borrow.Author.Count.{below-more}
-use lib.ListN.{length, getD}
+use lib.ListN.{getD}
 use Rattle.build.specs.Settle.{lacksRoom}
 use Rattle.build.proofs.RoomMarks.{fits-done, fits-not}
 use Rattle.build.proofs.settle.fits.Statement.{statement}
@@ -47,9 +47,9 @@ lacks-room-requires c κs = c .before .before .before .before .before .before .b
 
 returns : tie.Need-returns Inv-loop μ-loop
 returns c =
+    let s = c .before .before .before .before .before .before .before .before .before .before in
     sym
-    (fits-not (c .before .before .before .before .before .before .before .before .before .before .args .w) (c .before .before .before .before .before .before .before .before .before .before .args .counts .now) (c .before .before .before .before .before .before .before .before .before .before .args .met .now) (c .before .before .before .before .before .before .before .before .before .before .args .queue .now) (c .before .before .before .before .before .before .before .before .before .before .args .tail)
-    (c .before .before .before .before .before .before .before .before .before .before .pre .1) (c .before .before .before .before .before .before .loop .at) (c .before .before .before .before .before .loop-test .taken) (sym (c .before .lacks-room .ensures) ∙ c .if1 .taken))
+    (fits-not (s .args .w) (s .args .counts .now) (s .pre .1) (c .before .before .before .before .before .before .loop .at) (c .before .before .before .before .before .loop-test .taken) (sym (c .before .lacks-room .ensures) ∙ c .if1 .taken))
 
 add-at : tie.Need-add-at Inv-loop μ-loop
 add-at c = omega arith
@@ -66,9 +66,9 @@ loop-again c = (
 
 returns-2 : tie.Need-returns-2 Inv-loop μ-loop
 returns-2 c =
+    let s = c .before .before .before .before .before in
     sym
-    (fits-done (c .before .before .before .before .before .args .w) (c .before .before .before .before .before .args .counts .now) (c .before .before .before .before .before .args .met .now) (c .before .before .before .before .before .args .queue .now) (c .before .before .before .before .before .args .tail)
-    (c .before .before .before .before .before .pre .1) (λ j h. c .before .loop .inv .1 j (omega arith)))
+    (fits-done (s .args .w) (s .args .counts .now) (s .pre .1) (λ j h. c .before .loop .inv .1 j (omega arith)))
 
 pub fits-spec : {M : Type 1} → statement M
 fits-spec =
