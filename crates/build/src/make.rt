@@ -43,5 +43,6 @@ pub fn make(
         clear(counts);
         return Built::Refused(refused);
     }
-    Built::Entries(total(counts))
+    let entries = total(counts);
+    Built::Entries(entries)
 }
