@@ -1,8 +1,6 @@
 //! The distance index for Rust: safe functions over the proved library. Rooms are slices that the caller owns; every
 //! refusal has the paper's name and its place.
 
-use std::os::raw::c_void;
-
 /// Why a call was refused. The place is 0 where none is named.
 #[derive(Clone, Copy, Debug, PartialEq, Eq)]
 pub enum Refusal {
@@ -257,12 +255,4 @@ pub fn read(
         )
     };
     told(number, place, &[n, k], (n as usize, k as usize))
-}
-
-/// NULL with length 0, which an empty Rust slice never passes.
-pub fn check_order_of_null(n: usize) -> (u32, u64) {
-    let mut place = UNWRITTEN;
-    let null = std::ptr::null::<c_void>() as Room;
-    let number = unsafe { seam_check_order(n, null, 0, &mut place) };
-    (number, place)
 }

@@ -411,8 +411,6 @@ fn back(dice: &mut Dice, bytes: &[u8], w: usize) {
 
 #[test]
 fn limits() {
-    assert_eq!(seam::check_order_of_null(0), (1, 0));
-    assert_eq!(seam::check_order_of_null(1), (2, 0));
     // A lone frame, and blocks at and over the largest size.
     let alone = Block::of(1, &[]);
     assert_eq!(seam::check_links(1, alone.links()), Ok(()));

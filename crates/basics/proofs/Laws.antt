@@ -1,17 +1,18 @@
--- The laws that every crate uses: cases on a truth value, searches over places, least values, tables, sums, one stored
--- place.
-use Prim.Native.Nat.{ℕ, zero, suc, _+_, _-_, _*_, _≤_, _<_, min}
+-- The laws that every crate uses: cases on a truth value, searches over places, counts, least values, tables, sums, one
+-- stored place.
+use Prim.Native.Nat.{ℕ, zero, suc, _+_, _-_, _≤_, _<_}
 use mathlib.Core.Path.{_≡_, refl, sym, ap, _∙_}
 use mathlib.Core.Logic.{_⊎_, inl, inr}
 use mathlib.Core.Bool.{Bool, true, false, cond, not, _&&_, _||_, true≢false}
 use mathlib.Core.List.{List, [], _∷_, _++_}
-use native.Mathlib.Nat.{add-suc, suc-mul, mul-le-mul-right, add-zero}
 use native.Mathlib.Numerals.{add-one}
-use native.Mathlib.Decide.{decLe, decLt, ℕ-discrete}
+use native.Mathlib.Decide.{decLt, ℕ-discrete}
 use native.Mathlib.Omega.{arith}
-use lib.ListN.{length, getD, set, length-set}
+use lib.ListN.{length, getD, set}
+use lib.Dec.{eqb}
 use lib.Seq.{ext-getD, getD-set-same, getD-set-other}
-use Rattle.basics.specs.Places.{first, some, least, table, sum}
+use borrow.Author.Tests.{eqb-true, eq-eqb}
+use Rattle.basics.specs.Places.{first, some, stands, count, least, table, sum}
 
 -- ---- cases
 
@@ -242,6 +243,91 @@ some-last marked a left none e =
     by-cases (ℕ-discrete j (a + left))
     (λ (q : j ≡ a + left). ap marked q ∙ e)
     (λ q. some-not marked a left j none h (omega arith)))
+
+-- ---- what stands at a place
+
+pub stands-at : (f : ℕ → ℕ) (k r : ℕ) → r < k → stands f k (f r) ≡ true
+unfolding stands
+stands-at f k r h = some-one (λ j. eqb (f j) (f r)) 0 k r (omega arith) (omega arith) (eq-eqb (f r) (f r) refl)
+
+pub stands-by : (f : ℕ → ℕ) (k v : ℕ) → stands f k v ≡ true → (r : ℕ) × (r < k) × (f r ≡ v)
+unfolding stands
+stands-by f k v e =
+    let (r, low, h, m) = some-found (λ j. eqb (f j) v) 0 k e in
+    (r, omega arith, eqb-true (f r) v m)
+
+-- ---- how many are marked
+
+pub count-none : (marked : ℕ → Bool) → count marked zero ≡ 0
+unfolding count
+count-none marked = refl
+
+pub count-hit : (marked : ℕ → Bool) (n : ℕ) → marked n ≡ true → count marked (suc n) ≡ suc (count marked n)
+unfolding count
+count-hit marked n e = cond-true _ _ e
+
+pub count-miss : (marked : ℕ → Bool) (n : ℕ) → marked n ≡ false → count marked (suc n) ≡ count marked n
+unfolding count
+count-miss marked n e = cond-false _ _ e
+
+pub count-most : (marked : ℕ → Bool) (n : ℕ) → count marked n ≤ n
+count-most marked zero = omega (arith, count-none marked)
+count-most marked (suc n) =
+    bcase (marked n)
+    (λ e. omega (arith, count-hit marked n e, count-most marked n))
+    (λ e. omega (arith, count-miss marked n e, count-most marked n))
+
+pub count-ext : (p q : ℕ → Bool) (n : ℕ) → ((i : ℕ) → i < n → p i ≡ q i) → count p n ≡ count q n
+count-ext p q zero same = count-none p ∙ sym (count-none q)
+count-ext p q (suc n) same =
+    let rest : count p n ≡ count q n = count-ext p q n (λ i h. same i (omega arith)) in
+    let last : p n ≡ q n = same n (omega arith) in
+    bcase (p n)
+    (λ e. count-hit p n e ∙ ap suc rest ∙ sym (count-hit q n (sym last ∙ e)))
+    (λ e. count-miss p n e ∙ rest ∙ sym (count-miss q n (sym last ∙ e)))
+
+-- whatever p marks, q marks
+pub count-le : (p q : ℕ → Bool) (n : ℕ) → ((i : ℕ) → i < n → p i ≡ true → q i ≡ true) → count p n ≤ count q n
+count-le p q zero more = omega (arith, count-none p)
+count-le p q (suc n) more =
+    let rest : count p n ≤ count q n = count-le p q n (λ i h. more i (omega arith)) in
+    bcase (p n)
+    (λ e. omega (arith, count-hit p n e, count-hit q n (more n (omega arith) e)))
+    (λ e.
+    bcase (q n)
+    (λ f. omega (arith, count-miss p n e, count-hit q n f))
+    (λ f. omega (arith, count-miss p n e, count-miss q n f)))
+
+-- whatever p marks, q marks, and b besides
+pub count-more : (p q : ℕ → Bool) (n b : ℕ) → ((i : ℕ) → i < n → p i ≡ true → q i ≡ true) → b < n → p b ≡ false → q b ≡ true
+    → count p n < count q n
+count-more p q zero b more h e f = absurd (omega arith)
+count-more p q (suc n) b more h e f =
+    by-cases (ℕ-discrete b n)
+    (λ (k : b ≡ n).
+    let rest : count p n ≤ count q n = count-le p q n (λ i l. more i (omega arith)) in
+    omega (arith, count-miss p n (ap p (sym k) ∙ e), count-hit q n (ap q (sym k) ∙ f)))
+    (λ k.
+    let rest : count p n < count q n = count-more p q n b (λ i l. more i (omega arith)) (omega arith) e f in
+    bcase (p n)
+    (λ g. omega (arith, count-hit p n g, count-hit q n (more n (omega arith) g)))
+    (λ g.
+    bcase (q n)
+    (λ l. omega (arith, count-miss p n g, count-hit q n l))
+    (λ l. omega (arith, count-miss p n g, count-miss q n l))))
+
+-- a place that is not marked keeps the count below n
+pub count-gap : (p : ℕ → Bool) (n b : ℕ) → b < n → p b ≡ false → count p n < n
+count-gap p n b h e =
+    let all : ℕ → Bool = λ i. true in
+    omega (arith, count-more p all n b (λ i l m. refl) h e refl, count-most all n)
+
+-- as a loop counts: the next place is marked, or it is not
+pub count-here : (marked : ℕ → Bool) (n : ℕ) → marked n ≡ true → count marked (n + 1) ≡ count marked n + 1
+count-here marked n e = ap (count marked) (add-one n) ∙ count-hit marked n e ∙ sym (add-one (count marked n))
+
+pub count-past : (marked : ℕ → Bool) (n : ℕ) → marked n ≡ false → count marked (n + 1) ≡ count marked n
+count-past marked n e = ap (count marked) (add-one n) ∙ count-miss marked n e
 
 -- ---- the least value
 

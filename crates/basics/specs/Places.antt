@@ -1,7 +1,8 @@
--- Searches over a run of places, and tables: the words that the definitions of every crate are made of.
+-- Searches and counts over a run of places, and tables: the words that the definitions of every crate are made of.
 use Prim.Native.Nat.{ℕ, zero, suc, _+_, min}
-use mathlib.Core.Bool.{Bool, true, false, cond, _||_}
+use mathlib.Core.Bool.{Bool, true, false, cond}
 use mathlib.Core.List.{List, [], _∷_}
+use lib.Dec.{eqb}
 
 -- the lowest of the `left` places from `a` on that is marked, or the end of them where none is
 unfoldable pub first : (ℕ → Bool) → ℕ → ℕ → ℕ
@@ -16,6 +17,17 @@ some marked a zero = false
 some marked a (suc left) =
     let rest : Bool = some marked (suc a) left in
     cond (marked a) true rest
+
+-- v stands at one of the places below r: it is one of `f 0 .. f (r - 1)`
+unfoldable pub stands : (ℕ → ℕ) → ℕ → ℕ → Bool
+stands f r v = some (λ j. eqb (f j) v) 0 r
+
+-- how many of the places below n are marked
+unfoldable pub count : (ℕ → Bool) → ℕ → ℕ
+count marked zero = 0
+count marked (suc n) =
+    let rest : ℕ = count marked n in
+    cond (marked n) (suc rest) rest
 
 -- the least of `f 0 .. f (k - 1)`, and `most` where none is below it
 unfoldable pub least : ℕ → ℕ → (ℕ → ℕ) → ℕ

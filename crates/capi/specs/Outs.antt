@@ -26,13 +26,17 @@ pub record Outs : Type 0 where
 abbrev pub outs : ℕ → ℕ → List ℕ → List (List ℕ) → Outs
 outs number place values rooms = record { number = number; place = place; values = values; rooms = rooms }
 
+-- these numbers, and rooms beside them
+unfoldable pub withRooms : Outs → List (List ℕ) → Outs
+withRooms o rooms = outs (o .number) (o .place) (o .values) rooms
+
 -- a test: 0 or a refusal
 unfoldable pub testOuts : Verdict → Outs
 testOuts verdict = outs (numberOf verdict) (placeOf verdict) [] []
 
 -- order by degree: a verdict, and the order room
 unfoldable pub orderOuts : Ordered → Outs
-orderOuts o = outs (numberOf (o .verdict)) (placeOf (o .verdict)) [] (o .room ∷ [])
+orderOuts o = withRooms (testOuts (o .verdict)) (o .room ∷ [])
 
 -- the build: the number of entries, and labels, counts and the two work rooms
 unfoldable pub buildOuts : Outcome → Outs
@@ -65,6 +69,4 @@ headerOuts a =
 
 -- the reader: n and k, and the order room, the label room and the count room
 unfoldable pub readOuts : reader.Outcome → Outs
-readOuts o =
-    let t : reader.Told = reader.told (o .answer) in
-    outs (t .number) (t .place) (t .frames ∷ (t .stop ∷ [])) (o .order ∷ (o .labels ∷ (o .counts ∷ [])))
+readOuts o = withRooms (headerOuts (o .answer)) (o .order ∷ (o .labels ∷ (o .counts ∷ [])))

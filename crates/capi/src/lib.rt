@@ -6,7 +6,7 @@ ghost use Rattle.links.specs.Links.{checkLinks};
 ghost use Rattle.links.specs.Order.{checkOrder, degreeOf};
 ghost use Rattle.rows.specs.Rooms.{checkRow};
 ghost use Rattle.rows.specs.Pair.{pairTold};
-ghost use Rattle.rows.specs.Spread.{spreadNumbers};
+ghost use Rattle.rows.specs.Spread.{spreadOf, spreadTold};
 ghost use Rattle.build.specs.Build.{buildOf};
 ghost use Rattle.file.specs.Writer.{writeOf};
 ghost use Rattle.file.specs.Reader.{headerOf, readOf};
@@ -210,7 +210,7 @@ pub extern "C" fn seam_spread(
 ) -> u32
     ensures { λ r. ⌜
         outs r (now (place .exit)) (now (spread .exit) ∷ []) []
-        ≡ spreadOuts (spreadNumbers n w (now (labels .entry)) (now (counts .entry)))
+        ≡ spreadOuts (spreadTold (spreadOf n w (now (labels .entry)) (now (counts .entry))))
         ⌝ }
 {
     match rows::spread::spread(n, w, labels, counts) {

@@ -65,3 +65,24 @@ vcase (Refused r) f g = g r refl
 pub told : (r s : Refusal) → numberOf (Refused r) ≡ numberOf (Refused s) → placeOf (Refused r) ≡ placeOf (Refused s) → r ≡ s
 unfolding numberOf placeOf
 told r s p q = λ i. record { number = p i; place = q i }
+
+-- ---- success is 0, and nothing else
+
+-- a refusal of such tests has a number
+abbrev pub Numbered : Verdict → Type 0
+Numbered v = (r : Refusal) → v ≡ Refused r → 0 < r .number
+
+pub fine-numbered : Numbered Fine
+fine-numbered r e = fine-not-refused e
+
+pub test-numbered : (b : Bool) (number place : ℕ) → 0 < number → Numbered (test b number place)
+unfolding test numberOf
+test-numbered true number place h r e = fine-not-refused e
+test-numbered false number place h r e =
+    let same : number ≡ r .number = ap numberOf e in
+    omega arith
+
+pub then-numbered : (v next : Verdict) → Numbered v → Numbered next → Numbered (v then next)
+unfolding _then_
+then-numbered Fine next p q r e = q r e
+then-numbered (Refused s) next p q r e = p r e

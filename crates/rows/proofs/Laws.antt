@@ -29,6 +29,10 @@ pub entry-of-parts : (e : ℕ) → e < 4294967296 → entryOf (rankOf e) (joinsO
 unfolding rankOf joinsOf entryOf
 entry-of-parts e h = omega arith
 
+pub rank-small : (e : ℕ) → e < 4294967296 → rankOf e < 65536
+unfolding rankOf
+rank-small e h = omega arith
+
 pub joins-small : (e : ℕ) → joinsOf e < 65536
 unfolding joinsOf
 joins-small e = omega arith
@@ -102,15 +106,22 @@ pub in-room : (w : ℕ) (labels : List ℕ) (v count : ℕ) → v < 4096 → w �
 unfolding inRoom
 in-room w labels v count h k l = both _ _ (both _ _ (lt-ltb v 4096 h) (le-leb w 256 k)) (le-leb (v * w + count) (length labels) l)
 
+-- what the test shows where it holds
+pub room-held : (w : ℕ) (labels : List ℕ) (v count : ℕ) → inRoom w labels v count ≡ true
+    → (v < 4096) × (w ≤ 256) × (v * w + count ≤ length labels)
+unfolding inRoom
+room-held w labels v count e =
+    let p : (ltb v 4096 && leb w 256 ≡ true) × (leb (v * w + count) (length labels) ≡ true) = both-true _ _ e in
+    let q : (ltb v 4096 ≡ true) × (leb w 256 ≡ true) = both-true _ _ (p .0) in
+    (ltb-true v 4096 (q .0), leb-true w 256 (q .1), leb-true (v * w + count) (length labels) (p .1))
+
 pub not-in-room : (w : ℕ) (labels : List ℕ) (v count : ℕ)
     → (v < 4096 → w ≤ 256 → v * w + count ≤ length labels → ⊥) → inRoom w labels v count ≡ false
-unfolding inRoom
 not-in-room w labels v count never =
     bcase (inRoom w labels v count)
     (λ t.
-    let p : (ltb v 4096 && leb w 256 ≡ true) × (leb (v * w + count) (length labels) ≡ true) = both-true _ _ t in
-    let q : (ltb v 4096 ≡ true) × (leb w 256 ≡ true) = both-true _ _ (p .0) in
-    absurd (never (ltb-true v 4096 (q .0)) (leb-true w 256 (q .1)) (leb-true (v * w + count) (length labels) (p .1))))
+    let (h, k, l) = room-held w labels v count t in
+    absurd (never h k l))
     (λ f. f)
 
 pub part-in-room : {n : ℕ} (w : ℕ) (labels : List ℕ) (v count : ℕ) → v < n → n ≤ 4096 → w ≤ 256 → count ≤ w
@@ -136,11 +147,17 @@ length-part {n} w labels v count h k e =
     length-take-le count (drop (v * w) labels)
     (simp length-drop (omega (arith, row-inside {v = v} {n = n} {c = count} {w = w} h k)))
 
--- what is cut from a row's start for its count is its used part
+-- what is cut from a row's start for a count is so many of its entries
+pub cut-part : (w : ℕ) (labels : List ℕ) (v count : ℕ)
+    → take (v * w + count - v * w) (drop (v * w) labels) ≡ part w labels v count
+unfolding part
+cut-part w labels v count = rw add-sub-cancel-left refl
+
+-- for its own count it is the used part
 pub cut : (w : ℕ) (labels counts : List ℕ) (v : ℕ)
     → take (v * w + getD counts v 0 - v * w) (drop (v * w) labels) ≡ rowAt w labels counts v
-unfolding rowAt part
-cut w labels counts v = rw add-sub-cancel-left refl
+unfolding rowAt
+cut w labels counts v = cut-part w labels v (getD counts v 0)
 
 -- ---- sound rows
 
@@ -190,6 +207,13 @@ faultless-entry bound n row i e =
       joins = leb-false _ _ (q .1);
       rising = λ h. leb-false _ _ (rw (lt-ltb 0 i h) at (p .1));
     }
+
+-- under a higher bound it stays so
+pub faultless-higher : {bound higher : ℕ} (n : ℕ) (row : List ℕ) (i : ℕ) → bound ≤ higher → faultyEntry bound n row i ≡ false
+    → faultyEntry higher n row i ≡ false
+faultless-higher {bound} {higher} n row i h e =
+    let f : Faultless bound n row i = faultless-entry bound n row i e in
+    faultless higher n row i (omega (arith, f .rank)) (f .joins) (f .rising)
 
 pub sound-of : (bound n : ℕ) (row : List ℕ) (count : ℕ) → some (faultyEntry bound n row) 0 count ≡ false → Sound bound n row count
 sound-of bound n row count e =

@@ -8,7 +8,7 @@ use borrow.Author.Tests.{leb-true, le-leb, lt-leb, eqb-true, eq-eqb, ne-eqb, ltb
 use lib.ListN.{length, getD}
 use lib.Dec.{leb, ltb, eqb}
 use Rattle.basics.specs.Places.{first, some}
-use Rattle.basics.proofs.Laws.{bcase, both-true, both, of-not-false, not-of-true, first-before, first-none}
+use Rattle.basics.proofs.Laws.{bcase, both-true, both, of-not-false, not-of-true, not-of-false, first-before, first-is, first-none}
 use Rattle.refusal.specs.Tests.{test, _then_, refusal}
 use Rattle.refusal.specs.declared.Refusal.{Refusal}
 use Rattle.refusal.specs.declared.Verdict.{Verdict}
@@ -126,12 +126,11 @@ module _ {n w : ℕ} {labels counts : List ℕ} (r : Rooms n w labels counts) (v
   unfolding rowAt
   length-row = length-part w labels v (getD counts v 0) h k (r .places)
 
-  pub sound-by-part : (bound : ℕ)
+  pub sound-by-entries : (bound : ℕ)
       → soundRow bound n w labels counts v
-      ≡ not
-      (some (faultyEntry bound n (partOf w labels v (getD counts v 0))) 0 (length (partOf w labels v (getD counts v 0))))
+      ≡ not (some (faultyEntry bound n (rowAt w labels counts v)) 0 (length (rowAt w labels counts v)))
   unfolding soundRow
-  sound-by-part bound = rw (part-is-row, length-row, le-leb (getD counts v 0) w k) refl
+  sound-by-entries bound = rw (length-row, le-leb (getD counts v 0) w k) refl
 
 -- 9: a count over W
 pub count-unsound : (bound n w : ℕ) (labels counts : List ℕ) (v : ℕ) → w < getD counts v 0
@@ -156,3 +155,13 @@ sound-rows bound n w labels counts r sound =
     let unsound : ℕ → Bool = λ u. not (soundRow bound n w labels counts u) in
     let all : first unsound 0 n ≡ 0 + n = first-none unsound 0 n (λ v h k. not-of-true (sound v (omega arith))) in
     rows-alone bound n w labels counts r ∙ rows-fine bound n w labels counts (omega arith)
+
+-- the first row that is not sound is refused
+pub unsound-row : (bound : ℕ) {n w : ℕ} {labels counts : List ℕ} → Rooms n w labels counts → (v : ℕ) → v < n
+    → ((u : ℕ) → u < v → soundRow bound n w labels counts u ≡ true) → soundRow bound n w labels counts v ≡ false
+    → checkRows bound n w labels counts ≡ Refused (refusal 9 v)
+unsound-row bound {n} {w} {labels} {counts} r v h sound e =
+    let unsound : ℕ → Bool = λ u. not (soundRow bound n w labels counts u) in
+    let lowest : first unsound 0 n ≡ v =
+    first-is unsound 0 n v (omega arith) (omega arith) (not-of-false e) (λ u p q. not-of-true (sound u q)) in
+    rows-alone bound n w labels counts r ∙ rows-refused bound n w labels counts (sym lowest) (omega arith)

@@ -3,28 +3,26 @@ use Prim.Native.Nat.{ℕ, zero, suc, _+_, _*_, _≤_, _<_, max}
 use mathlib.Core.Path.{_≡_, refl, sym, ap, _∙_}
 use mathlib.Core.Bool.{true, false, cond}
 use mathlib.Core.List.{List, [], _∷_}
-use native.Mathlib.Nat.{add-zero}
 use native.Mathlib.Numerals.{add-one}
 use native.Mathlib.Omega.{arith}
 use borrow.Author.Tests.{ne-eqb}
-use lib.ListN.{length, getD, take, drop, length-drop}
+use lib.ListN.{length, getD, drop}
 use lib.Dec.{eqb}
-use lib.Seq.{length-take-le}
-use Rattle.basics.proofs.Laws.{bcase, cond-false}
+use lib.Seq.{drop-cons}
+use Rattle.basics.proofs.Laws.{bcase}
 use Rattle.refusal.specs.Tests.{test}
+use Rattle.refusal.specs.declared.Refusal.{Refusal}
 use Rattle.refusal.specs.declared.Verdict.{Verdict}
 use Rattle.refusal.specs.declared.Verdict.the-variants as verdicts
 use Rattle.rows.specs.Entry.{rankOf, joinsOf}
 use Rattle.rows.specs.Meetings.{Rises}
-use Rattle.rows.specs.Pair.{RowIn}
-use Rattle.rows.specs.Rooms.{part, rowAt, checkRows, roomTests, rowsTest, sizesFit}
-use Rattle.rows.specs.Spread.{farthestIn, farthest, spreadBy, spreadOf, spreadTold, spreadToldBy, spreadNumbers, SpreadTold, RowsIn}
+use Rattle.rows.specs.Rooms.{Rooms, part, rowAt, soundRow, checkRows, roomTests, rowsTest, sizesFit}
+use Rattle.rows.specs.Spread.{farthestIn, frontJoins, farthest, spreadBy, spreadOf, spreadTold, SpreadTold}
 use Rattle.rows.specs.declared.spread.SpreadAnswer.{SpreadAnswer}
 use Rattle.rows.specs.declared.spread.SpreadAnswer.the-variants.{Spread, Refused}
 use Rattle.rows.proofs.PairDepends.{NamedVerdict, named-test, named-then}
-use Rattle.rows.proofs.Laws.{getD-part, joins-small}
+use Rattle.rows.proofs.Laws.{joins-small}
 use Rattle.rows.proofs.PairLaws.{row-in}
-use Rattle.rows.proofs.RoomLaws.{rows-sound}
 
 -- ---- one row
 
@@ -35,11 +33,11 @@ no-first (e ∷ es) h =
     let rest : farthestIn es ≡ 0 = no-first es (λ i k. h (suc i) (omega arith)) in
     rw (ne-eqb (rankOf e) 0 (omega (arith, h zero (omega arith)))) (omega arith)
 
-first-only : (row : List ℕ) → Rises row → 0 < length row
-    → farthestIn row ≡ cond (eqb (rankOf (getD row 0 0)) 0) (joinsOf (getD row 0 0)) 0
-unfolding farthestIn
-first-only [] r h = absurd (omega arith)
-first-only (e ∷ es) r h =
+-- in a row of rising ranks only the first entry counts
+farthest-front : (row : List ℕ) → Rises row → farthestIn row ≡ frontJoins row
+unfolding farthestIn frontJoins
+farthest-front [] r = refl
+farthest-front (e ∷ es) r =
     let rest : farthestIn es ≡ 0 =
     no-first es
     (λ i k.
@@ -47,27 +45,27 @@ first-only (e ∷ es) r h =
     omega arith) in
     omega arith
 
-pub no-entries : (w : ℕ) (labels counts : List ℕ) (v : ℕ) → getD counts v 0 ≡ 0 → farthestIn (rowAt w labels counts v) ≡ 0
-unfolding farthestIn rowAt part
-no-entries w labels counts v e = rw e refl
+pub sound-front : {n w : ℕ} {labels counts : List ℕ} {v : ℕ} → Rooms n w labels counts → v < n
+    → soundRow n n w labels counts v ≡ true → farthestIn (rowAt w labels counts v) ≡ frontJoins (rowAt w labels counts v)
+sound-front r h e = farthest-front _ (row-in r h e .rises)
 
-long : (w : ℕ) (labels counts : List ℕ) (v : ℕ) → RowIn w labels counts v → 0 < getD counts v 0
-    → 0 < length (rowAt w labels counts v)
-unfolding rowAt part
-long w labels counts v r h =
-    let whole : length (take (getD counts v 0) (drop (v * w) labels)) ≡ getD counts v 0 =
-    length-take-le (getD counts v 0) (drop (v * w) labels) (simp length-drop (omega (arith, r .lies))) in
-    omega arith
+-- the front of a row as it lies in the room
+pub no-front : (w : ℕ) (labels counts : List ℕ) (v : ℕ) → getD counts v 0 ≡ 0 → frontJoins (rowAt w labels counts v) ≡ 0
+unfolding frontJoins rowAt part
+no-front w labels counts v e = rw e refl
 
-pub first-entry : (w : ℕ) (labels counts : List ℕ) (v : ℕ) → RowIn w labels counts v → 0 < getD counts v 0
-    → farthestIn (rowAt w labels counts v)
+front-part : (w : ℕ) (labels : List ℕ) (v count : ℕ) → 0 < count → v * w < length labels
+    → frontJoins (part w labels v count)
+    ≡ cond (eqb (rankOf (getD labels (v * w) 0)) 0) (joinsOf (getD labels (v * w) 0)) 0
+unfolding frontJoins part
+front-part w labels v zero h k = absurd (omega arith)
+front-part w labels v (suc count) h k = rw (drop-cons labels (v * w) 0 k) refl
+
+pub front-entry : (w : ℕ) (labels counts : List ℕ) (v : ℕ) → 0 < getD counts v 0 → v * w < length labels
+    → frontJoins (rowAt w labels counts v)
     ≡ cond (eqb (rankOf (getD labels (v * w) 0)) 0) (joinsOf (getD labels (v * w) 0)) 0
 unfolding rowAt
-first-entry w labels counts v r h =
-    let front : getD (part w labels v (getD counts v 0)) 0 0 ≡ getD labels (v * w) 0 =
-    getD-part w labels v (getD counts v 0) 0 h ∙ ap (λ (k : ℕ). getD labels k 0) (add-zero (v * w)) in
-    first-only (rowAt w labels counts v) (r .rises) (long w labels counts v r h)
-    ∙ ap (λ (e : ℕ). cond (eqb (rankOf e) 0) (joinsOf e) 0) front
+front-entry w labels counts v h k = front-part w labels v (getD counts v 0) h k
 
 -- ---- all rows
 
@@ -84,20 +82,18 @@ unfolding farthest
 farthest-small w labels counts zero = omega arith
 farthest-small w labels counts (suc v) = omega (arith, small-in (rowAt w labels counts v), farthest-small w labels counts v)
 
-pub rows-in : (n w : ℕ) (labels counts : List ℕ) → checkRows n n w labels counts ≡ verdicts.Fine → RowsIn n w labels counts
-rows-in n w labels counts e =
-    let (rooms, sound) = rows-sound n n w labels counts e in
-    record { row = λ v h. row-in rooms h (sound v h) }
+-- the answer behind the tests
+module _ (n w : ℕ) (labels counts : List ℕ) where
+  pub spread-fine : {d : ℕ} → checkRows n n w labels counts ≡ verdicts.Fine → d ≡ farthest w labels counts n
+      → Spread (2 * d) ≡ spreadOf n w labels counts
+  unfolding spreadOf spreadBy
+  spread-fine e f =
+      ap (λ (d : ℕ). Spread (2 * d)) f ∙ sym (ap (λ (x : Verdict). spreadBy x (farthest w labels counts n)) e)
 
-told-by : (v : Verdict) (d : ℕ) → spreadTold (spreadBy v d) ≡ spreadToldBy v d
-unfolding spreadTold spreadBy spreadToldBy
-told-by verdicts.Fine d = refl
-told-by (verdicts.Refused r) d = refl
-
--- the paper's numbers of the answer
-pub spread-told : (n w : ℕ) (labels counts : List ℕ) → spreadTold (spreadOf n w labels counts) ≡ spreadNumbers n w labels counts
-unfolding spreadOf spreadNumbers
-spread-told n w labels counts = told-by (checkRows n n w labels counts) (farthest w labels counts n)
+  pub spread-refused : {r : Refusal} → checkRows n n w labels counts ≡ verdicts.Refused r
+      → Refused r ≡ spreadOf n w labels counts
+  unfolding spreadOf spreadBy
+  spread-refused e = sym (ap (λ (x : Verdict). spreadBy x (farthest w labels counts n)) e)
 
 -- ---- the paper's numbers tell
 

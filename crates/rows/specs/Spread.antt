@@ -1,12 +1,11 @@
 -- Spread: twice the largest joins among used entries of rank 0, or 0 if there is none.
-use Prim.Native.Nat.{ℕ, zero, suc, _*_, _<_, max}
+use Prim.Native.Nat.{ℕ, zero, suc, _*_, max}
 use mathlib.Core.Bool.{cond}
 use mathlib.Core.List.{List, [], _∷_}
 use lib.Dec.{eqb}
 use Rattle.refusal.specs.declared.Verdict.{Verdict}
 use Rattle.refusal.specs.declared.Verdict.the-variants as verdicts
 use Rattle.rows.specs.Entry.{rankOf, joinsOf}
-use Rattle.rows.specs.Pair.{RowIn}
 use Rattle.rows.specs.Rooms.{rowAt, checkRows}
 use Rattle.rows.specs.declared.spread.SpreadAnswer.{SpreadAnswer}
 use Rattle.rows.specs.declared.spread.SpreadAnswer.the-variants.{Spread, Refused}
@@ -15,6 +14,11 @@ use Rattle.rows.specs.declared.spread.SpreadAnswer.the-variants.{Spread,
 unfoldable pub farthestIn : List ℕ → ℕ
 farthestIn [] = 0
 farthestIn (e ∷ es) = max (cond (eqb (rankOf e) 0) (joinsOf e) 0) (farthestIn es)
+
+-- the joins of a row's first entry if it is of rank 0, or 0
+unfoldable pub frontJoins : List ℕ → ℕ
+frontJoins [] = 0
+frontJoins (e ∷ es) = cond (eqb (rankOf e) 0) (joinsOf e) 0
 
 -- the largest joins among the used entries of rank 0 of rows 0 to k - 1, or 0
 unfoldable pub farthest : ℕ → List ℕ → List ℕ → ℕ → ℕ
@@ -40,16 +44,3 @@ pub record SpreadTold : Type 0 where
 unfoldable pub spreadTold : SpreadAnswer → SpreadTold
 spreadTold (Spread d) = record { number = 0; place = 0; spread = d }
 spreadTold (Refused r) = record { number = r .number; place = r .place; spread = 0 }
-
--- the same numbers from the tests and the largest joins
-unfoldable pub spreadToldBy : Verdict → ℕ → SpreadTold
-spreadToldBy verdicts.Fine joins = record { number = 0; place = 0; spread = 2 * joins }
-spreadToldBy (verdicts.Refused r) joins = record { number = r .number; place = r .place; spread = 0 }
-
--- the paper's numbers of the spread question
-unfoldable pub spreadNumbers : ℕ → ℕ → List ℕ → List ℕ → SpreadTold
-spreadNumbers n w labels counts = spreadToldBy (checkRows n n w labels counts) (farthest w labels counts n)
-
--- every row lies in the room with rising ranks
-pub record RowsIn (n w : ℕ) (labels counts : List ℕ) : Type 0 where
-  pub row : (v : ℕ) → v < n → RowIn w labels counts v

@@ -5,9 +5,9 @@ use crate::entry::Entry;
 use crate::rooms::check_rooms;
 use crate::sound::first_unsound;
 use crate::sound::sound_row;
+use refusal;
 use refusal::FRAME;
 use refusal::ROW;
-use refusal::Refusal;
 use refusal::Verdict;
 
 // The test of all rows for a rank bound: 1, 2, and 9 with the lowest frame whose row is not sound.
@@ -22,10 +22,7 @@ pub fn check_rows(bound: usize, n: usize, w: usize, labels: &[Entry], counts: &[
     if v == n {
         Verdict::Fine
     } else {
-        Verdict::Refused(Refusal {
-            number: ROW,
-            place: v,
-        })
+        refusal::refused(ROW, v)
     }
 }
 
@@ -38,16 +35,10 @@ pub fn check_row(n: usize, w: usize, labels: &[Entry], counts: &[u32], v: usize)
         return rooms;
     };
     if n <= v {
-        return Verdict::Refused(Refusal {
-            number: FRAME,
-            place: 0,
-        });
+        return refusal::refused(FRAME, 0);
     }
     if !sound_row(n, n, w, labels, counts, v) {
-        return Verdict::Refused(Refusal {
-            number: ROW,
-            place: v,
-        });
+        return refusal::refused(ROW, v);
     }
     Verdict::Fine
 }

@@ -3,30 +3,39 @@ ghost use mathlib.Core.Path.{_≡_};
 ghost use Prim.Native.Nat.{_+_, _*_};
 ghost use denote.Ref.{ptr};
 ghost use Rattle.rows.specs.Entry.{entryBytes};
-ghost use Rattle.rows.specs.Rooms.{partOf, partStart};
+ghost use Rattle.rows.specs.Rooms.{inRoom, partOf, partStart};
 use crate::entry::Entry;
 
-// The first `count` entries of row v, and the empty part at the room's front where they do not lie in the room. No room
-// has 4,096 rows or more, nor one wider than 256, so that no product wraps.
+// Whether `count` entries of row v lie in the room. A room has at most 4,096 rows, so that frame numbers are below that,
+// each at most 256 wide, so that no product wraps.
+fn in_room(labels: &[Entry], w: usize, v: usize, count: usize) -> bool
+    ensures { λ r. ⌜ r ≡ inRoom w (now (labels .entry)) v count ⌝ }
+{
+    if 4096 <= v {
+        return false;
+    }
+    if 256 < w {
+        return false;
+    }
+    let start = v * w;
+    if labels.len() < start {
+        return false;
+    }
+    count <= labels.len() - start
+}
+
+// The first `count` entries of row v, and the empty part at the room's front where they do not lie in the room.
 pub fn row_part(labels: &[Entry], w: usize, v: usize, count: usize) -> &[Entry]
     ensures entries { λ r. ⌜ now r ≡ partOf w (now (labels .entry)) v count ⌝ }
     ensures lies { λ r. ⌜
         ptr r ≡ (ptr (labels .entry) .0, partStart w (now (labels .entry)) v count * entryBytes + ptr (labels .entry) .1)
         ⌝ }
 {
-    if 4096 <= v {
-        return &labels[0..0];
-    }
-    if 256 < w {
+    let lies = in_room(labels, w, v, count);
+    if !lies {
         return &labels[0..0];
     }
     let start = v * w;
-    if labels.len() < start {
-        return &labels[0..0];
-    }
-    if labels.len() - start < count {
-        return &labels[0..0];
-    }
     let end = start + count;
     &labels[start..end]
 }

@@ -9,9 +9,9 @@ ghost use Rattle.rows.specs.Rooms.{faultyEntry, soundRow, Rooms};
 use crate::entry::Entry;
 use crate::entry::joins_of;
 use crate::entry::rank_of;
-use crate::part::row_part;
 
-// Whether no entry of a row's used part is faulty. `floor` is one more than the rank before, 0 at the first entry.
+// Whether no entry of a row's used part is faulty. `floor` is one more than the rank before, 0 at the first entry. Ranks
+// rise, so that only the last is held against the bound.
 pub fn sound_part(bound: usize, n: usize, row: &[Entry]) -> bool
     ensures { λ r. ⌜ r ≡ not (some (faultyEntry bound n (now (row .entry))) 0 (length (now (row .entry)))) ⌝ }
 {
@@ -24,16 +24,13 @@ pub fn sound_part(bound: usize, n: usize, row: &[Entry]) -> bool
         if rank < floor {
             return false;
         }
-        if bound <= rank {
-            return false;
-        }
         if n <= joins {
             return false;
         }
         floor = rank + 1;
         at += 1;
     }
-    true
+    floor <= bound
 }
 
 // Whether row v is sound.
@@ -52,7 +49,9 @@ pub fn sound_row(
     if w < count {
         return false;
     }
-    sound_part(bound, n, row_part(labels, w, v, count))
+    let start = v * w;
+    let end = start + count;
+    sound_part(bound, n, &labels[start..end])
 }
 
 // The lowest frame whose row is not sound, or n.

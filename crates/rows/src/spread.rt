@@ -1,9 +1,12 @@
 // The spread: twice the largest joins among used entries of rank 0, or 0 if there is none.
 ghost use mathlib.Core.Path.{_≡_};
-ghost use Rattle.rows.specs.Spread.{spreadOf, spreadTold, spreadNumbers};
-use crate::check::check_rows;
+ghost use Rattle.rows.specs.Spread.{spreadOf};
 use crate::entry::Entry;
-use crate::farthest::farthest_of;
+use crate::farthest::front_joins;
+use crate::farthest::larger;
+use crate::rooms::check_rooms;
+use crate::sound::sound_row;
+use refusal::ROW;
 use refusal::Refusal;
 use refusal::Verdict;
 
@@ -13,16 +16,28 @@ pub enum SpreadAnswer {
     Refused(Refusal),
 }
 
-// The spread of an index: every row is tested, and the lowest frame whose row is not sound is named.
+// The spread of an index, in one pass: every row is tested, and the lowest frame whose row is not sound is named. A row's
+// front is read before its test, so that the test does not wait for it.
 pub fn spread(n: usize, w: usize, labels: &[Entry], counts: &[u32]) -> SpreadAnswer
-    ensures answer { λ r. ⌜ r ≡ spreadOf n w (now (labels .entry)) (now (counts .entry)) ⌝ }
-    ensures numbers { λ r. ⌜ spreadTold r ≡ spreadNumbers n w (now (labels .entry)) (now (counts .entry)) ⌝ }
+    ensures { λ r. ⌜ r ≡ spreadOf n w (now (labels .entry)) (now (counts .entry)) ⌝ }
 {
-    let rows = check_rows(n, n, w, labels, counts);
-    if let Verdict::Refused(refusal) = rows {
+    let rooms = check_rooms(n, w, labels, counts);
+    if let Verdict::Refused(refusal) = rooms {
         return SpreadAnswer::Refused(refusal);
     }
-    let joins = farthest_of(n, w, labels, counts);
-    let twice = 2 * joins;
+    let mut found: usize = 0;
+    let mut v: usize = 0;
+    while v < n {
+        let front = front_joins(w, labels, counts, v);
+        if !sound_row(n, n, w, labels, counts, v) {
+            return SpreadAnswer::Refused(Refusal {
+                number: ROW,
+                place: v,
+            });
+        }
+        found = larger(front, found);
+        v += 1;
+    }
+    let twice = 2 * found;
     SpreadAnswer::Spread(twice)
 }

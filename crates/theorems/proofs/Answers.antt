@@ -5,11 +5,11 @@ use mathlib.Core.Path.{_≡_, refl, sym, ap, subst, _∙_}
 use mathlib.Core.List.{List}
 use native.Mathlib.Omega.{arith}
 use Rattle.theory.specs.Links.{Link, Block, hubOf}
-use Rattle.theory.specs.Chains.{Chain, Count, joins, none, Least, ThroughOf}
+use Rattle.theory.specs.Chains.{Count, joins, none, Least, ThroughOf}
 use Rattle.theory.specs.Distance.{far, said}
 use Rattle.theory.specs.Plain.{ones, answerBy}
 use Rattle.theory.proofs.DistVia.{chain-join}
-use Rattle.theory.proofs.DistPlain.{chain-links}
+use Rattle.theory.proofs.DistPlain.{counted, uncounted}
 use Rattle.theory.proofs.Distance.{chain-back}
 use Rattle.theory.proofs.Plain.{plain-fewest, plain-true-count}
 use Rattle.theorems.specs.Demands.{askedOf, Joins}
@@ -29,15 +29,6 @@ least-holds Q c m l e = subst (Least Q) e l .0
 -- ---- chains put together
 
 module _ {S L : List ℕ} where
-  -- a chain with its number of links
-  pub counted : {a b m : ℕ} → Chain (Link S L ones) a b m → Joins S L a b m
-  counted {m} c = record { sum = m; chain = c; long = sym (chain-links c) }
-
-  -- and without
-  pub uncounted : {a b m : ℕ} → Joins S L a b m → Chain (Link S L ones) a b m
-  uncounted {a} {b} c =
-      subst (λ (j : ℕ). Chain (Link S L ones) a b j) (chain-links (c .chain) ∙ c .long) (c .chain)
-
   -- one chain behind another
   pub behind : {a b c m j : ℕ} → Joins S L a b m → Joins S L b c j → Joins S L a c (m + j)
   behind x y = counted (chain-join (uncounted x) (uncounted y) refl)

@@ -6,16 +6,17 @@ use mathlib.Core.Bool.{true, false, _&&_}
 use mathlib.Core.List.{List, _∷_, _++_}
 use native.Mathlib.Decide.{ℕ-discrete}
 use native.Mathlib.Omega.{arith}
-use borrow.Author.Tests.{lt-ltb, le-ltb, le-leb, lt-leb, eq-eqb, ne-eqb}
+use borrow.Author.Tests.{lt-ltb, le-ltb, le-leb, lt-leb}
 use lib.ListN.{length, getD, take, drop, length-set, length-append, length-take, length-drop, List·getD-append}
 use lib.Seq.{getD-set-same, getD-set-other, getD-take, getD-drop, getD-append-add, split-at, ext-getD}
 use lib.Dec.{leb, ltb}
-use Rattle.basics.proofs.Laws.{by-cases, lt-or-ge, three-ways, cond-true, cond-false, length-table, getD-table}
+use Rattle.basics.proofs.Laws.{by-cases, lt-or-ge, three-ways, cond-false, length-table, getD-table}
 use Rattle.refusal.specs.declared.Verdict.the-variants.{Fine}
 use Rattle.theory.specs.Links.{hubOf}
 use Rattle.theory.specs.Distance.{far, said}
 use Rattle.theory.specs.Rows.{Row, answer, instead}
 use Rattle.theory.specs.Plain.{rowBy}
+use Rattle.theory.proofs.Spare.{instead-at, instead-not}
 use Rattle.theory.proofs.Plain.{plain-spare}
 use Rattle.rows.specs.Entry.{rankOf, joinsOf, decode}
 use Rattle.rows.specs.Pair.{pairTests}
@@ -26,14 +27,6 @@ use Rattle.rows.proofs.PairLaws.{asked-fine}
 use Rattle.rows.proofs.PairAnswer.{pair-answer}
 use Rattle.theorems.specs.Demands.{askedOf, labelsWithout, countsWithout, hubAt}
 use Rattle.theorems.proofs.Held.{Held, held-length, held-sound, held-answer}
-
-instead-at : (R : ℕ → Row) (v : ℕ) (x : Row) (u : ℕ) → u ≡ v → instead R v x u ≡ x
-unfolding instead
-instead-at R v x u e = cond-true x (R u) (eq-eqb u v e)
-
-instead-not : (R : ℕ → Row) (v : ℕ) (x : Row) (u : ℕ) → (u ≡ v → ⊥) → instead R v x u ≡ R u
-unfolding instead
-instead-not R v x u e = cond-false x (R u) (ne-eqb u v e)
 
 -- entry j of a row in the room
 pub entry-at : (w : ℕ) (labels counts : List ℕ) (v j : ℕ) → j < getD counts v 0

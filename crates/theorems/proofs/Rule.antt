@@ -3,15 +3,14 @@ use Prim.Native.Nat.{ℕ, _<_}
 use mathlib.Core.Path.{_≡_, sym, subst, _∙_}
 use mathlib.Core.Logic.{_↔_}
 use mathlib.Core.List.{List}
-use native.Mathlib.Nat.{le-antisymm}
 use native.Mathlib.Omega.{arith}
-use Rattle.basics.proofs.Laws.{lt-or-ge}
 use Rattle.theory.specs.Links.{Block, hubOf}
-use Rattle.theory.specs.Chains.{joins, none, Least}
+use Rattle.theory.specs.Chains.{joins, Least}
 use Rattle.theory.specs.Distance.{far}
 use Rattle.theory.specs.Rows.{In}
 use Rattle.theory.specs.Plain.{ones, joinsTo}
-use Rattle.theory.proofs.Answer.{said-joins, said-none}
+use Rattle.theory.proofs.Answer.{said-joins, said-is}
+use Rattle.theory.proofs.DistLeast.{least-one}
 use Rattle.theory.proofs.DistPlain.{joins-is}
 use Rattle.theory.proofs.Plain.{plain-in-row}
 use Rattle.rows.specs.Entry.{decode}
@@ -26,16 +25,7 @@ module _ {n : ℕ} {S L : List ℕ} (block : Block n 1 S L ones) (a b : ℕ) (p 
 
   -- the least number of links is the distance
   from-chains : (m : ℕ) → Least (Joins S L a b) (joins m) → (joinsTo n S L a b ≡ m) × (joinsTo n S L a b < far 1 n)
-  unfolding Least
-  from-chains m l =
-      lt-or-ge (joinsTo n S L a b) (far 1 n)
-      (λ h.
-      let (chain, least) = to-chains h in
-      (le-antisymm (least m (l .0)) (l .1 (joinsTo n S L a b) chain), h))
-      (λ h.
-      let no-chain : Least (Joins S L a b) none =
-      subst (Least (Joins S L a b)) (said-none (far 1 n) (joinsTo n S L a b) h) (joins-is block a b p) in
-      absurd (no-chain m (l .0)))
+  from-chains m l = said-is (far 1 n) (joinsTo n S L a b) m (least-one (Joins S L a b) _ (joins m) (joins-is block a b p) l)
 
 module _ {n w k : ℕ} {S L O labels counts : List ℕ} (h : Held n w k S L O labels counts) where
   pub held-rule : (v : ℕ) → v < n → (r m : ℕ) → In r m (decode (rowAt w labels counts v)) ↔ RowRule S L O k v r m

@@ -49,4 +49,4 @@ pub row-same : Same 2 row-kinds.ps row-kinds.r row-reads.Post
 row-same κs a r₁ r₂ s₁ s₂ p q = (p .0 ∙ sym (q .0), p .1 ∙ sym (q .1))
 
 pub spread-same : SameAnswer 2 spread-kinds.ps spread-kinds.r spread-reads.Post
-spread-same κs a r₁ r₂ s₁ s₂ p q = p .0 ∙ sym (q .0)
+spread-same κs a r₁ r₂ s₁ s₂ p q = p ∙ sym q

@@ -1,6 +1,6 @@
 -- The two trips over the writer's and the reader's contracts: an index written and read back is the same index, and a file
 -- read and written again is the same file. Where the output room is long enough the writer is not refused.
-use Prim.Native.Nat.{ℕ, _+_, _-_, _*_, _≤_}
+use Prim.Native.Nat.{ℕ, _+_, _*_, _≤_}
 use mathlib.Core.Path.{_≡_, sym, ap, _∙_}
 use mathlib.Core.List.{List}
 use native.Mathlib.Omega.{arith}

@@ -2,7 +2,7 @@
 -- the stop. A hub that one of the two rows lacks is covered by a hub of lower rank, at a sum no greater: so the lowest
 -- rank of the least sum is in both rows.
 use Prim.Native.Nat.{ℕ, zero, suc, _+_, _≤_, _<_, min}
-use mathlib.Core.Path.{_≡_, refl, sym, ap, subst}
+use mathlib.Core.Path.{_≡_, refl, sym, ap, subst, _∙_}
 use mathlib.Core.Logic.{_⊎_, inl, inr}
 use mathlib.Core.Bool.{cond}
 use mathlib.Core.List.{[], _∷_, List·Memᴰ·head, List·Memᴰ·tail, List·Memᴰ·cases-cons, List·Memᴰ·not-nil}
@@ -17,11 +17,6 @@ use Rattle.theory.specs.Rows.{Row, In, Shared, Metric, at, answer, hubs,
 use Rattle.theory.proofs.Rule.{rule-lt, in-row}
 
 -- ---- what a row has for a rank
-
-pub at-cap : (B : ℕ) (x : Row) (r : ℕ) → at B x r ≤ B
-unfolding at
-at-cap B [] r = omega arith
-at-cap B (e ∷ x) r = omega (arith, at-cap B x r)
 
 pub at-le : (B : ℕ) (x : Row) {r m : ℕ} → In r m x → at B x r ≤ m
 unfolding at
@@ -94,6 +89,18 @@ said-joins B m h = cond-true (joins m) none (lt-ltb m B h)
 pub said-none : (B m : ℕ) → B ≤ m → said B m ≡ none
 unfolding said
 said-none B m h = cond-false (joins m) none (le-ltb m B h)
+
+-- what says m joins is m
+pub said-is : (B a m : ℕ) → said B a ≡ joins m → (a ≡ m) × (a < B)
+said-is B a m e =
+    lt-or-ge a B
+    (λ h.
+    let same : joins a ≡ joins m = sym (said-joins B a h) ∙ e in
+    (cc, h))
+    (λ h.
+    let other : none ≡ joins m = sym (said-none B a h) ∙ e in
+    let z : _≡_ {A = ℕ} 0 1 = cc in
+    absurd (omega arith))
 
 -- a number is the least of Q, or none is, by what it is below and not below B
 pub said-least : (Q : ℕ → Type 0) (B m : ℕ) → (m < B → Q m) → ((j : ℕ) → Q j → m ≤ j) → ((j : ℕ) → Q j → m < B) → Least Q (said B m)

@@ -2,23 +2,19 @@
 -- it is below B, and the same both ways, for a list holds only frames whose own list holds this one.
 use Prim.Native.Nat.{ℕ, zero, suc, _+_, _-_, _≤_, _<_}
 use mathlib.Core.Path.{_≡_, refl, ap}
-use mathlib.Core.Bool.{Bool, true, cond, _&&_}
+use mathlib.Core.Bool.{true, cond, _&&_}
 use mathlib.Core.List.{List}
 use native.Mathlib.Omega.{arith}
 use lib.ListN.{length, getD}
 use lib.Dec.{leb, ltb, eqb}
 use borrow.Author.Tests.{leb-true, ltb-true, eqb-true, le-leb, lt-ltb, eq-eqb}
 use Rattle.basics.proofs.Laws.{bcase, lt-or-ge, both-true, both, cond-true, cond-false, least-most, least-le, least-ge, least-found}
-use Rattle.theory.specs.Links.{Block, Link, inList}
+use Rattle.theory.specs.Links.{Block, Link, inList, holdsAt}
 use Rattle.theory.specs.Distance.{weight}
-
--- place i is in the list of u and holds v
-unfoldable pub holdsAt : List ℕ → List ℕ → ℕ → ℕ → ℕ → Bool
-holdsAt S L u v i = inList S u i && eqb (getD L i 0) v
 
 -- such a place is a link
 pub held-link : {S L : List ℕ} (P : ℕ → ℕ) (u v i : ℕ) → holdsAt S L u v i ≡ true → Link S L P u v (P i)
-unfolding holdsAt inList
+unfolding inList
 held-link {S} {L} P u v i t =
     let (t₁, t₂) = both-true (leb (getD S u 0) i && ltb i (getD S (u + 1) 0)) (eqb (getD L i 0) v) t in
     let (t₃, t₄) = both-true (leb (getD S u 0) i) (ltb i (getD S (u + 1) 0)) t₁ in
@@ -26,7 +22,7 @@ held-link {S} {L} P u v i t =
 
 -- and each link is one
 pub link-held : {S L : List ℕ} {P : ℕ → ℕ} {u v w : ℕ} (l : Link S L P u v w) → holdsAt S L u v (l .at) ≡ true
-unfolding holdsAt inList
+unfolding inList
 link-held l =
     both _ _ (both _ _ (le-leb _ _ (l .from)) (lt-ltb _ _ (l .upto))) (eq-eqb _ _ (l .holds))
 
@@ -37,7 +33,7 @@ module _ (B : ℕ) (S L : List ℕ) (P : ℕ → ℕ) where
 
   -- a weight below B is the penalty of a link
   pub weight-link : (u v : ℕ) → weight B S L P u v < B → Link S L P u v (weight B S L P u v)
-  unfolding weight holdsAt
+  unfolding weight
   weight-link u v h =
       let f : ℕ → ℕ = λ i. cond (holdsAt S L u v i) (P i) B in
       let (i, l, e) = least-found B (length L) f h in
@@ -47,7 +43,7 @@ module _ (B : ℕ) (S L : List ℕ) (P : ℕ → ℕ) where
 
   -- no link's penalty is below the weight
   pub weight-least : {u v w : ℕ} (l : Link S L P u v w) → l .at < length L → weight B S L P u v ≤ w
-  unfolding weight holdsAt
+  unfolding weight
   weight-least {u} {v} {w} l h =
       let f : ℕ → ℕ = λ i. cond (holdsAt S L u v i) (P i) B in
       omega (arith, least-le B (length L) f (l .at) h, cond-true (P (l .at)) B (link-held l), l .costs)
@@ -70,9 +66,6 @@ module _ {n M : ℕ} {S L : List ℕ} {P : ℕ → ℕ} (block : Block n M S L P
   pub link-inside : {u v w : ℕ} → u < n → Link S L P u v w → v < n
   link-inside {u} h l = omega (arith, l .holds, block .inside u (l .at) h (l .from) (l .upto))
 
-  pub link-least : {u v w : ℕ} → u < n → Link S L P u v w → 1 ≤ w
-  link-least h l = omega (arith, l .costs, block .least (l .at) (link-place h l))
-
   pub link-upto : {u v w : ℕ} → u < n → Link S L P u v w → w ≤ M
   link-upto h l = omega (arith, l .costs, block .most (l .at) (link-place h l))
 
@@ -84,7 +77,7 @@ module _ {n M : ℕ} {S L : List ℕ} {P : ℕ → ℕ} (block : Block n M S L P
   link-weight B h l = weight-least B S L P l (link-place h l)
 
   pub weight-one : (B u v : ℕ) → 1 ≤ B → 1 ≤ weight B S L P u v
-  unfolding weight holdsAt
+  unfolding weight
   weight-one B u v h =
       least-ge B (length L) _ 1 h
       (λ i l.

@@ -10,12 +10,12 @@ use native.Mathlib.Decide.{ℕ-discrete}
 use native.Mathlib.Omega.{arith}
 use lib.Dec.{ltb}
 use borrow.Author.Tests.{ltb-true, lt-ltb, le-ltb}
-use Rattle.basics.proofs.Laws.{by-cases, lt-or-ge}
+use Rattle.basics.specs.Places.{count}
+use Rattle.basics.proofs.Laws.{by-cases, lt-or-ge, count-more, count-gap}
 use Rattle.theory.specs.Links.{Block, Link}
 use Rattle.theory.specs.Chains.{Chain, stay, step, Least}
 use Rattle.theory.specs.Distance.{far, weight, dist, said}
 use Rattle.theory.specs.Rows.{Metric}
-use Rattle.theory.proofs.Counting.{count, count-more, count-gap}
 use Rattle.theory.proofs.DistVia.{chain-join, chain-last, via-most, via-self, via-weight, via-triangle, via-swap, via-chain}
 use Rattle.theory.proofs.DistWeight.{link-inside, link-back, link-upto, weight-link, link-weight, weight-one, weight-upto, weight-swap}
 

@@ -9,10 +9,9 @@ use native.Mathlib.Decide.{ℕ-discrete}
 use native.Mathlib.Omega.{arith}
 use lib.Dec.{eqb, ltb}
 use borrow.Author.Tests.{eq-eqb, ne-eqb, lt-ltb, le-ltb, ltb-true, eqb-true}
-use Rattle.basics.specs.Places.{some}
-use Rattle.basics.proofs.Laws.{bcase, by-cases, cases, lt-or-ge, both, both-true, cond-true, cond-false, some-one, some-found}
+use Rattle.basics.specs.Places.{some, count}
+use Rattle.basics.proofs.Laws.{bcase, by-cases, cases, lt-or-ge, both, both-true, cond-true, cond-false, some-one, some-found, count-most, count-more}
 use Rattle.theory.specs.Walk.{Met, levels}
-use Rattle.theory.proofs.Counting.{count, count-most, count-more}
 use Rattle.theory.proofs.Walk.{one-walk}
 
 -- the penalty of a link where all are 1
@@ -23,14 +22,14 @@ one-or-far : (B : ℕ) (J : ℕ → ℕ → Bool) (u v : ℕ) → 1 ≤ B → 1 
 one-or-far B J u v h =
     bcase (J u v) (λ e. omega (arith, cond-true {A = ℕ} 1 B e)) (λ e. omega (arith, cond-false {A = ℕ} 1 B e))
 
-module _ (B n : ℕ) (J : ℕ → ℕ → Bool) (P : ℕ → ℕ) (x : ℕ) (inside : x < n) (room : n < B) where
+module _ (B n : ℕ) (J : ℕ → ℕ → Bool) (A : ℕ → ℕ) (x : ℕ) (inside : x < n) (room : n < B) where
   -- the levels known after level d
   L : ℕ → ℕ → ℕ
-  L d v = levels B n J P x d v
+  L d v = levels B n J A x d v
 
   -- a neighbour of a kept frame of level d
   reached : ℕ → ℕ → Bool
-  reached d v = some (λ u. eqb (L d u) d && ltb d (P u) && J u v) 0 n
+  reached d v = some (λ u. eqb (L d u) d && ltb d (A u) && J u v) 0 n
 
   at-start : (v : ℕ) → ((v ≡ x) × (L zero v ≡ 0)) ⊎ ((v ≡ x → ⊥) × (L zero v ≡ B))
   unfolding L levels
@@ -42,15 +41,15 @@ module _ (B n : ℕ) (J : ℕ → ℕ → Bool) (P : ℕ → ℕ) (x : ℕ) (ins
   -- known before; or met now; or not met
   stays : (d v : ℕ) → L d v < B → L (suc d) v ≡ L d v
   unfolding L levels
-  stays d v h = cond-true _ _ (lt-ltb (levels B n J P x d v) B h)
+  stays d v h = cond-true _ _ (lt-ltb (levels B n J A x d v) B h)
 
   met-now : (d v : ℕ) → B ≤ L d v → reached d v ≡ true → L (suc d) v ≡ suc d
   unfolding L levels reached
-  met-now d v h e = cond-false _ _ (le-ltb (levels B n J P x d v) B h) ∙ cond-true _ _ e
+  met-now d v h e = cond-false _ _ (le-ltb (levels B n J A x d v) B h) ∙ cond-true _ _ e
 
   not-met : (d v : ℕ) → B ≤ L d v → reached d v ≡ false → L (suc d) v ≡ B
   unfolding L levels reached
-  not-met d v h e = cond-false _ _ (le-ltb (levels B n J P x d v) B h) ∙ cond-false _ _ e
+  not-met d v h e = cond-false _ _ (le-ltb (levels B n J A x d v) B h) ∙ cond-false _ _ e
 
   stage {ℓ} : {C : Type ℓ} (d v : ℕ) → (L d v < B → L (suc d) v ≡ L d v → C)
       → (B ≤ L d v → reached d v ≡ true → L (suc d) v ≡ suc d → C) → (L (suc d) v ≡ B → C) → C
@@ -60,19 +59,19 @@ module _ (B n : ℕ) (J : ℕ → ℕ → Bool) (P : ℕ → ℕ) (x : ℕ) (ins
       (λ h. bcase (reached d v) (λ e. new h e (met-now d v h e)) (λ e. not (not-met d v h e)))
 
   -- a frame that is a neighbour of a kept frame of level d
-  reached-by : (d v : ℕ) → reached d v ≡ true → (u : ℕ) × (u < n) × (L d u ≡ d) × (d < P u) × (J u v ≡ true)
+  reached-by : (d v : ℕ) → reached d v ≡ true → (u : ℕ) × (u < n) × (L d u ≡ d) × (d < A u) × (J u v ≡ true)
   unfolding reached
   reached-by d v e =
-      let (u, low, h, m) = some-found (λ z. eqb (L d z) d && ltb d (P z) && J z v) 0 n e in
-      let (p, q) = both-true (eqb (L d u) d && ltb d (P u)) (J u v) m in
-      let (a, b) = both-true (eqb (L d u) d) (ltb d (P u)) p in
-      (u, omega arith, eqb-true (L d u) d a, ltb-true d (P u) b, q)
+      let (u, low, h, m) = some-found (λ z. eqb (L d z) d && ltb d (A z) && J z v) 0 n e in
+      let (p, q) = both-true (eqb (L d u) d && ltb d (A u)) (J u v) m in
+      let (a, b) = both-true (eqb (L d u) d) (ltb d (A u)) p in
+      (u, omega arith, eqb-true (L d u) d a, ltb-true d (A u) b, q)
 
-  reaches : (d u v : ℕ) → u < n → L d u ≡ d → d < P u → J u v ≡ true → reached d v ≡ true
+  reaches : (d u v : ℕ) → u < n → L d u ≡ d → d < A u → J u v ≡ true → reached d v ≡ true
   unfolding reached
   reaches d u v h a b q =
-      some-one (λ z. eqb (L d z) d && ltb d (P z) && J z v) 0 n u (omega arith) (omega arith)
-      (both (eqb (L d u) d && ltb d (P u)) (J u v) (both (eqb (L d u) d) (ltb d (P u)) (eq-eqb (L d u) d a) (lt-ltb d (P u) b)) q)
+      some-one (λ z. eqb (L d z) d && ltb d (A z) && J z v) 0 n u (omega arith) (omega arith)
+      (both (eqb (L d u) d && ltb d (A u)) (J u v) (both (eqb (L d u) d) (ltb d (A u)) (eq-eqb (L d u) d a) (lt-ltb d (A u) b)) q)
 
   level-cap : (d v : ℕ) → d ≤ n → L d v ≤ B
   level-cap zero v h = cases (at-start v) (λ z. omega arith) (λ z. omega arith)
@@ -92,7 +91,7 @@ module _ (B n : ℕ) (J : ℕ → ℕ → Bool) (P : ℕ → ℕ) (x : ℕ) (ins
 
   -- a frame is met from a kept frame one level less
   level-from : (d v : ℕ) → d ≤ n → v < n → (v ≡ x → ⊥) → L d v < B
-      → (u : ℕ) × (u < n) × (L d u < P u) × (L d v ≡ suc (L d u)) × (J u v ≡ true)
+      → (u : ℕ) × (u < n) × (L d u < A u) × (L d v ≡ suc (L d u)) × (J u v ≡ true)
   level-from zero v h p e l = cases (at-start v) (λ z. absurd (e (z .0))) (λ z. absurd (omega arith))
   level-from (suc d) v h p e l =
       stage d v
@@ -107,7 +106,7 @@ module _ (B n : ℕ) (J : ℕ → ℕ → Bool) (P : ℕ → ℕ) (x : ℕ) (ins
       (λ f. absurd (omega arith))
 
   -- a kept frame's neighbours are met at the next level or before
-  level-on : (d u v : ℕ) → d ≤ n → u < n → v < n → L d u < d → L d u < P u → J u v ≡ true → L d v ≤ suc (L d u)
+  level-on : (d u v : ℕ) → d ≤ n → u < n → v < n → L d u < d → L d u < A u → J u v ≡ true → L d v ≤ suc (L d u)
   level-on zero u v h p q less kept near = absurd (omega arith)
   level-on (suc d) u v h p q less kept near =
       stage d u
@@ -152,7 +151,7 @@ module _ (B n : ℕ) (J : ℕ → ℕ → Bool) (P : ℕ → ℕ) (x : ℕ) (ins
       (λ e. omega (arith, level-most n u (omega arith) h))
 
   -- the levels are a finished walk
-  pub levels-met : Met B n (oneEach B J) P x (levels B n J P x n)
+  pub levels-met : Met B n (oneEach B J) A x (levels B n J A x n)
   unfolding L
   levels-met =
       record {
@@ -172,10 +171,5 @@ module _ (B n : ℕ) (J : ℕ → ℕ → Bool) (P : ℕ → ℕ) (x : ℕ) (ins
       }
 
   -- and the only one
-  pub met-levels : (t : ℕ → ℕ) → Met B n (oneEach B J) P x t → (v : ℕ) → v < n → t v ≡ levels B n J P x n v
+  pub met-levels : (t : ℕ → ℕ) → Met B n (oneEach B J) A x t → (v : ℕ) → v < n → t v ≡ levels B n J A x n v
   met-levels t met = one-walk (λ u v p q. one-or-far B J u v (omega arith)) met levels-met
-
-  -- a frame that is met at all is met below level n
-  pub levels-below : (v : ℕ) → v < n → levels B n J P x n v < B → levels B n J P x n v < n
-  unfolding L
-  levels-below = level-below

@@ -1,4 +1,4 @@
-pub mod Counting
+pub mod Ranks
 pub mod DistVia
 pub mod DistLeast
 pub mod DistWeight

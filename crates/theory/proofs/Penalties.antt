@@ -11,7 +11,7 @@ use Rattle.theory.specs.Chains.{Through, Least}
 use Rattle.theory.specs.Distance.{far, weight, dist, said}
 use Rattle.theory.specs.Rows.{Row, In, Rule, answer, keep, ruleRow, instead}
 use Rattle.theory.specs.Walk.{Met}
-use Rattle.theory.proofs.Counting.{ranks-all}
+use Rattle.theory.proofs.Ranks.{ranks-all}
 use Rattle.theory.proofs.DistWeight.{weight-one}
 use Rattle.theory.proofs.Distance.{far-one, dist-chain, dist-least, dist-reach, dist-step, dist-last, dist-bound, dist-metric}
 use Rattle.theory.proofs.Rule.{in-row, own-entry, no-higher, joins-most}

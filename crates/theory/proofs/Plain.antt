@@ -1,14 +1,12 @@
 -- The plain index, every join counted as 1, in the paper's own words: demand 3 in fewest joins, what a row holds, and that
 -- the walks level by level make the rows of the rule.
 use Prim.Native.Nat.{ℕ, zero, suc, _+_, _*_, _≤_, _<_}
-use mathlib.Core.Path.{_≡_, refl, sym, ap, subst, _∙_}
+use mathlib.Core.Path.{_≡_, refl, sym, subst, _∙_}
 use mathlib.Core.Logic.{_↔_}
 use mathlib.Core.List.{List, [], _∷_, _++_}
-use native.Mathlib.Decide.{ℕ-discrete}
 use native.Mathlib.Omega.{arith}
-use lib.ListN.{length, length-append}
+use lib.ListN.{length}
 use Rattle.basics.specs.Places.{least}
-use Rattle.basics.proofs.Laws.{by-cases}
 use Rattle.theory.specs.Links.{Link, Block, Order, hubOf}
 use Rattle.theory.specs.Chains.{Least, ChainOf, ThroughOf}
 use Rattle.theory.specs.Distance.{far, said}
@@ -16,11 +14,10 @@ use Rattle.theory.specs.Rows.{Row, In, Shared, Rule, Metric, answer, hub
 use Rattle.theory.specs.Walk.{Met, walkRow, walks}
 use Rattle.theory.specs.Plain.{ones, joined, joinsTo, rowBy, answerBy}
 use Rattle.theory.proofs.DistLeast.{least-same}
-use Rattle.theory.proofs.DistVia.{chain-sum}
-use Rattle.theory.proofs.DistPlain.{plain-weight, chain-links, joins-is, joins-below}
+use Rattle.theory.proofs.DistPlain.{plain-weight, counted, uncounted, joins-is}
 use Rattle.theory.proofs.Distance.{dist-metric}
-use Rattle.theory.proofs.Rule.{Rising, rankAt, joinsAt, place-in, row-rising, rising-length, keep-append}
-use Rattle.theory.proofs.Answer.{literal, answer-hubs, hubs-cap}
+use Rattle.theory.proofs.Rule.{Rising, rankAt, joinsAt, place-in, row-rising, keep-append}
+use Rattle.theory.proofs.Answer.{literal, answer-hubs}
 use Rattle.theory.proofs.Levels.{oneEach}
 use Rattle.theory.proofs.WalkRule.{Steps, met-rule, walk-rule, walks-rule}
 use Rattle.theory.proofs.Penalties.{sumAnswer, dist-steps, sums-fewest, sums-never-below, sums-near, sums-true, sums-spare, sums-in-row, sums-own, sums-no-higher, sums-upto}
@@ -31,10 +28,6 @@ use Rattle.theory.proofs.Penalties.{sumAnswer, dist-steps, sums-fewest,
 pub plain-rising : (n : ℕ) (S L O : List ℕ) (k v : ℕ) → Rising k (rowBy n S L O k v)
 unfolding rowBy
 plain-rising n S L O k v = row-rising (far 1 n) (joinsTo n S L) (hubOf O) k v
-
--- at most one entry for each hub
-pub plain-length : (n : ℕ) (S L O : List ℕ) (k v : ℕ) → length (rowBy n S L O k v) ≤ k
-plain-length n S L O k v = rising-length (plain-rising n S L O k v)
 
 pub row-none : (n : ℕ) (S L O : List ℕ) (v : ℕ) → rowBy n S L O zero v ≡ []
 unfolding rowBy ruleRow
@@ -50,21 +43,6 @@ pub row-grows : (n : ℕ) (S L O : List ℕ) (r v : ℕ) → rowBy n S L O (suc 
 unfolding rowBy ruleRow
 row-grows n S L O r v =
     keep-append r (joinsTo n S L (hubOf O r) v) (hubs (far 1 n) (joinsTo n S L) (hubOf O) r (hubOf O r) v) (rowBy n S L O r v)
-
-pub row-longer : (n : ℕ) (S L O : List ℕ) (r k v : ℕ) → r ≤ k → length (rowBy n S L O r v) ≤ length (rowBy n S L O k v)
-row-longer n S L O r zero v h =
-    let e : r ≡ zero = omega arith in
-    omega (arith, ap (λ (z : ℕ). length (rowBy n S L O z v)) e)
-row-longer n S L O r (suc k) v h =
-    by-cases (ℕ-discrete r (suc k))
-    (λ (e : r ≡ suc k). omega (arith, ap (λ (z : ℕ). length (rowBy n S L O z v)) e))
-    (λ e.
-    omega (
-      arith,
-      row-longer n S L O r k v (omega arith),
-      ap length (row-grows n S L O k v),
-      length-append (rowBy n S L O k v) (gained n S L O k v),
-    ))
 
 -- there are fewer frames than infinity
 pub far-room : (n : ℕ) → n < far 1 n
@@ -113,8 +91,8 @@ module _ {n : ℕ} {S L : List ℕ} (block : Block n 1 S L ones) where
           used = c .used;
           there = c .there;
           on = c .on;
-          to-hub = record { sum = c .there; chain = c .to-hub; long = sym (chain-links (c .to-hub)) };
-          from-hub = record { sum = c .on; chain = c .from-hub; long = sym (chain-links (c .from-hub)) };
+          to-hub = counted (c .to-hub);
+          from-hub = counted (c .from-hub);
           whole = c .whole;
         })
         (λ j c.
@@ -123,8 +101,8 @@ module _ {n : ℕ} {S L : List ℕ} (block : Block n 1 S L ones) where
           used = c .used;
           there = c .there;
           on = c .on;
-          to-hub = chain-sum (sym (chain-links (c .to-hub .chain) ∙ c .to-hub .long)) (c .to-hub .chain);
-          from-hub = chain-sum (sym (chain-links (c .from-hub .chain) ∙ c .from-hub .long)) (c .from-hub .chain);
+          to-hub = uncounted (c .to-hub);
+          from-hub = uncounted (c .from-hub);
           whole = c .whole;
         })
         (sums-fewest block order k s t l p q)
@@ -189,13 +167,6 @@ module _ {n : ℕ} {S L : List ℕ} (block : Block n 1 S L ones) where
         let x : Row = rowBy n S L O k v in
         (plain-rising n S L O k v .below i h, plain-joins k v (rankAt x i) (joinsAt x i) l p (place-in x i h))
 
-    -- an entry that the rule lets in has fewer joins than there are frames
-    pub plain-small : (r v : ℕ) → r < n → v < n
-        → joinsTo n S L (hubOf O r) v < hubs (far 1 n) (joinsTo n S L) (hubOf O) r (hubOf O r) v → joinsTo n S L (hubOf O r) v < n
-    plain-small r v g p less =
-        joins-below block (hubOf O r) v (order .inside r g) p
-        (omega (arith, hubs-cap (far 1 n) (joinsTo n S L) (hubOf O) r (hubOf O r) v))
-
     -- ---- the walks
 
     -- one hub's walk over rows that are the rule's at its rank
@@ -203,10 +174,6 @@ module _ {n : ℕ} {S L : List ℕ} (block : Block n 1 S L ones) where
         → walkRow (far 1 n) n (joined S L) R r (hubOf O r) v ≡ rowBy n S L O (suc r) v
     unfolding rowBy
     walk-out = walk-rule (joined S L) (hubOf O) plain-metric (order .inside) plain-steps (far-room n)
-
-    pub row-out : (r v : ℕ) → r < n → v < n
-        → walkRow (far 1 n) n (joined S L) (rowBy n S L O r) r (hubOf O r) v ≡ rowBy n S L O (suc r) v
-    row-out r v g p = walk-out (rowBy n S L O r) r v g p (λ u q. refl)
 
     -- any finished walk does, whatever the order it was made in
     pub met-out : (r : ℕ) → r < n → (A t : ℕ → ℕ) → ((u : ℕ) → u < n → A u ≡ answerBy n S L O r (hubOf O r) u)

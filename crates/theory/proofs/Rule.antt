@@ -123,15 +123,6 @@ rising-keep r m p x s =
     (λ h. subst (Rising (suc r)) (sym (keep-yes r m p x h)) (rising-snoc r m x s))
     (λ h. subst (Rising (suc r)) (sym (keep-not r m p x h)) (rising-more (omega arith) s))
 
--- a row of rising ranks is no longer than its bound
-rising-at : {k : ℕ} {x : Row} → Rising k x → (i : ℕ) → i < length x → i ≤ rankAt x i
-rising-at s zero h = omega arith
-rising-at s (suc i) h = omega (arith, rising-at s i (omega arith), s .rise i (suc i) (omega arith) h)
-
-pub rising-length : {k : ℕ} {x : Row} → Rising k x → length x ≤ k
-rising-length {x = []} s = omega arith
-rising-length {x = e ∷ x} s = omega (arith, rising-at s (length x) (omega arith), s .below (length x) (omega arith))
-
 -- ranks of a row by the rule strictly rise, below the stop
 pub row-rising : (B : ℕ) (d : ℕ → ℕ → ℕ) (h : ℕ → ℕ) (k v : ℕ) → Rising k (ruleRow B d h k v)
 unfolding ruleRow
@@ -223,12 +214,6 @@ module _ {B n : ℕ} {d : ℕ → ℕ → ℕ} (h : ℕ → ℕ) (𝓜 : Metric 
       lt-or-ge q r
       (λ g. absurd (b .alone q g (omega (arith, 𝓜 .self (h q) f))))
       (λ g. g)
-
-  -- joins of a row are below infinity
-  pub joins-below : (k v r m : ℕ) → k ≤ n → v < n → In r m (ruleRow B d h k v) → m < B
-  joins-below k v r m l q mem =
-      let (a, b, c) = in-row k v l q .0 mem in
-      omega (arith, b .reach)
 
   -- joins of a row are at most what distances are
   pub joins-most : (most : ℕ) → ((a b : ℕ) → a < n → b < n → d a b < B → d a b ≤ most)

@@ -9,11 +9,10 @@ use lib.ListN.{length, length-append, List·getD-append}
 use lib.Seq.{getD-append-add, getD-append-seam}
 use borrow.Author.Tests.{eq-eqb, ne-eqb}
 use Rattle.basics.proofs.Laws.{by-cases, cases, lt-or-ge, cond-true, cond-false}
-use Rattle.theory.specs.Chains.{joins, none}
 use Rattle.theory.specs.Distance.{said}
 use Rattle.theory.specs.Rows.{Row, In, Rule, Metric, at, answer, ruleRow, instead}
 use Rattle.theory.proofs.Rule.{Rising, rankAt, in-place, row-rising, in-row, no-higher}
-use Rattle.theory.proofs.Answer.{at-in, at-rule, answer-ge, said-joins, said-none}
+use Rattle.theory.proofs.Answer.{at-in, at-rule, answer-ge, said-joins, said-is}
 use Rattle.theory.proofs.Demand.{hub-count}
 
 -- a row with an entry taken out has no more for any rank
@@ -43,26 +42,17 @@ gone {k} xs r m ys {j} s mem =
     ap (λ (z : ℕ × ℕ). z .0) (getD-append-add xs ((r, m) ∷ ys) (suc i) (0, 0)) in
     omega (arith, s .rise (length xs) (length xs + suc i) (omega arith) (omega arith)))
 
-instead-at : (R : ℕ → Row) (v : ℕ) (x : Row) (u : ℕ) → u ≡ v → instead R v x u ≡ x
+pub instead-at : (R : ℕ → Row) (v : ℕ) (x : Row) (u : ℕ) → u ≡ v → instead R v x u ≡ x
 unfolding instead
 instead-at R v x u e = cond-true x (R u) (eq-eqb u v e)
 
-instead-not : (R : ℕ → Row) (v : ℕ) (x : Row) (u : ℕ) → (u ≡ v → ⊥) → instead R v x u ≡ R u
+pub instead-not : (R : ℕ → Row) (v : ℕ) (x : Row) (u : ℕ) → (u ≡ v → ⊥) → instead R v x u ≡ R u
 unfolding instead
 instead-not R v x u e = cond-false x (R u) (ne-eqb u v e)
 
 -- a number and a greater one say different counts
 said-other : (B a b : ℕ) → a < B → a < b → said B a ≡ said B b → ⊥
-said-other B a b h l e =
-    lt-or-ge b B
-    (λ g.
-    let same : joins a ≡ joins b = sym (said-joins B a h) ∙ e ∙ said-joins B b g in
-    let z : a ≡ b = cc in
-    omega arith)
-    (λ g.
-    let same : joins a ≡ none = sym (said-joins B a h) ∙ e ∙ said-none B b g in
-    let z : _≡_ {A = ℕ} 0 1 = cc in
-    omega arith)
+said-other B a b h l e = omega (arith, said-is B b a (sym e ∙ said-joins B a h) .0)
 
 module _ {B n : ℕ} {d : ℕ → ℕ → ℕ} (h : ℕ → ℕ) (𝓜 : Metric B n d) (inside : (r : ℕ) → r < n → h r < n) (k v : ℕ)
     (upto : k ≤ n) (frame : v < n) where

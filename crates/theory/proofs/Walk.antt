@@ -7,10 +7,10 @@ use native.Mathlib.Omega.{arith}
 use Rattle.basics.proofs.Laws.{by-cases, lt-or-ge}
 use Rattle.theory.specs.Walk.{Met}
 
-one-below : {B n : ℕ} {W : ℕ → ℕ → ℕ} {P : ℕ → ℕ} {x : ℕ} {t s : ℕ → ℕ} → ((u v : ℕ) → u < n → v < n → 1 ≤ W u v)
-    → Met B n W P x t → Met B n W P x s → (m v : ℕ) → v < n → t v < m → t v < B → t v ≡ s v
+one-below : {B n : ℕ} {W : ℕ → ℕ → ℕ} {A : ℕ → ℕ} {x : ℕ} {t s : ℕ → ℕ} → ((u v : ℕ) → u < n → v < n → 1 ≤ W u v)
+    → Met B n W A x t → Met B n W A x s → (m v : ℕ) → v < n → t v < m → t v < B → t v ≡ s v
 one-below cost a b zero v p l g = absurd (omega arith)
-one-below {B} {n} {W} {P} {x} {t} {s} cost a b (suc m) v p l g =
+one-below {B} {n} {W} {A} {x} {t} {s} cost a b (suc m) v p l g =
     by-cases (ℕ-discrete v x)
     (λ (e : v ≡ x). ap t e ∙ a .start ∙ sym (b .start) ∙ ap s (sym e))
     (λ e.
@@ -23,25 +23,12 @@ one-below {B} {n} {W} {P} {x} {t} {s} cost a b (suc m) v p l g =
     (λ f. sym (one-below cost b a m v p (omega arith) (omega arith))))
 
 -- a finished walk is determined
-pub one-walk : {B n : ℕ} {W : ℕ → ℕ → ℕ} {P : ℕ → ℕ} {x : ℕ} {t s : ℕ → ℕ} → ((u v : ℕ) → u < n → v < n → 1 ≤ W u v)
-    → Met B n W P x t → Met B n W P x s → (v : ℕ) → v < n → t v ≡ s v
-one-walk {B} {n} {W} {P} {x} {t} {s} cost a b v p =
+pub one-walk : {B n : ℕ} {W : ℕ → ℕ → ℕ} {A : ℕ → ℕ} {x : ℕ} {t s : ℕ → ℕ} → ((u v : ℕ) → u < n → v < n → 1 ≤ W u v)
+    → Met B n W A x t → Met B n W A x s → (v : ℕ) → v < n → t v ≡ s v
+one-walk {B} {n} {W} {A} {x} {t} {s} cost a b v p =
     lt-or-ge (t v) B
     (one-below cost a b (suc (t v)) v p (omega arith))
     (λ g.
     lt-or-ge (s v) B
     (λ l. sym (one-below cost b a (suc (s v)) v p (omega arith) l))
     (λ l. omega (arith, a .cap v p, b .cap v p)))
-
--- only the answers for frames matter
-pub met-ext : {B n : ℕ} {W : ℕ → ℕ → ℕ} {P Q : ℕ → ℕ} {x : ℕ} {t : ℕ → ℕ} → ((u : ℕ) → u < n → P u ≡ Q u)
-    → Met B n W P x t → Met B n W Q x t
-met-ext {P = P} {Q = Q} {t = t} same a =
-    record {
-      cap = a .cap;
-      start = a .start;
-      on = λ u v p q l. a .on u v p q (omega (arith, same u p));
-      from = λ v p e g.
-          let (u, q, less, step) = a .from v p e g in
-          (u, q, omega (arith, same u q), step);
-    }

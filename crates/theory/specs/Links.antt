@@ -5,11 +5,15 @@ use mathlib.Core.Path.{_≡_}
 use mathlib.Core.Bool.{Bool, _&&_}
 use mathlib.Core.List.{List}
 use lib.ListN.{length, getD}
-use lib.Dec.{leb, ltb}
+use lib.Dec.{leb, ltb, eqb}
 
 -- place i lies in the list of frame v
 unfoldable pub inList : List ℕ → ℕ → ℕ → Bool
 inList S v i = leb (getD S v 0) i && ltb i (getD S (v + 1) 0)
+
+-- place i lies in the list of u and holds v
+abbrev pub holdsAt : List ℕ → List ℕ → ℕ → ℕ → ℕ → Bool
+holdsAt S L u v i = inList S u i && eqb (getD L i 0) v
 
 -- place `at` is in the list of u, holds v, and has penalty w
 pub record Link (S L : List ℕ) (P : ℕ → ℕ) (u v w : ℕ) : Type 0 where

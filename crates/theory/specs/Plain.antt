@@ -1,12 +1,11 @@
 -- The plain index: every join counts 1. The paper's own names for a block of n frames with starts S, neighbour places L
 -- and order O.
-use Prim.Native.Nat.{ℕ, _+_}
-use mathlib.Core.Bool.{Bool, _&&_}
+use Prim.Native.Nat.{ℕ}
+use mathlib.Core.Bool.{Bool}
 use mathlib.Core.List.{List}
-use lib.ListN.{length, getD}
-use lib.Dec.{eqb, ltb}
+use lib.ListN.{length}
 use Rattle.basics.specs.Places.{some}
-use Rattle.theory.specs.Links.{inList, hubOf}
+use Rattle.theory.specs.Links.{holdsAt, hubOf}
 use Rattle.theory.specs.Distance.{far, dist}
 use Rattle.theory.specs.Rows.{Row, answer, ruleRow}
 
@@ -14,13 +13,9 @@ use Rattle.theory.specs.Rows.{Row, answer, ruleRow}
 abbrev pub ones : ℕ → ℕ
 ones i = 1
 
--- above every count of joins, and every sum of two
-abbrev pub none-yet : ℕ → ℕ
-none-yet n = far 1 n
-
 -- the list of u holds v
 unfoldable pub joined : List ℕ → List ℕ → ℕ → ℕ → Bool
-joined S L u v = some (λ i. inList S u i && eqb (getD L i 0) v) 0 (length L)
+joined S L u v = some (holdsAt S L u v) 0 (length L)
 
 -- d(a,b): the fewest joins of a chain from a to b
 unfoldable pub joinsTo : ℕ → List ℕ → List ℕ → ℕ → ℕ → ℕ

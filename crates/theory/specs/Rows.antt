@@ -49,10 +49,10 @@ ruleRow B d h (suc r) v = keep r (d (h r) v) (hubs B d h r (h r) v) (ruleRow B d
 unfoldable pub instead : (ℕ → Row) → ℕ → Row → ℕ → Row
 instead R v x u = cond (eqb u v) x (R u)
 
--- the rule in the paper's words: h reaches v, and no w of lower rank has d(h,w) + d(w,v) = d(h,v)
+-- the rule in the paper's words: h reaches v, and no w of lower rank has d(h,w) + d(w,v) = d(h,v). Here h has rank r, w rank q
 pub record Rule (B : ℕ) (d : ℕ → ℕ → ℕ) (h : ℕ → ℕ) (r v : ℕ) : Type 0 where
   pub reach : d (h r) v < B
-  pub alone : (w : ℕ) → w < r → d (h r) (h w) + d (h w) v ≡ d (h r) v → ⊥
+  pub alone : (q : ℕ) → q < r → d (h r) (h q) + d (h q) v ≡ d (h r) v → ⊥
 
 -- what a distance owes the rule: frames are those below n
 pub record Metric (B n : ℕ) (d : ℕ → ℕ → ℕ) : Type 0 where

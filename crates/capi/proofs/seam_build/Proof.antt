@@ -1,27 +1,19 @@
 -- Each arm gives what the definition gives for that answer, and the build promises the answer with the rooms.
 use Prim.Native.Nat.{ℕ}
 use mathlib.Core.Path.{_≡_, sym, ap, _∙_}
-use mathlib.Core.List.{List, [], _∷_}
+use mathlib.Core.List.{List}
 use borrow.Author.Needs.{needs}
-use Rattle.refusal.specs.declared.Refusal.{Refusal}
 use Rattle.build.specs.Build.{builtNumber, builtPlace, builtEntries, Outcome, outcome}
 use Rattle.build.specs.declared.Built.{Built}
-use Rattle.capi.specs.Outs.{Outs, outs, buildOuts}
+use Rattle.capi.specs.Outs.{buildOuts}
 use Rattle.capi.proofs.seam_build.Statement.{statement}
 use Rattle.capi.proofs.seam_build.Tie as tie
 
-module _ {answer : Built} {labels counts met queue : List ℕ} {o : Outcome} (promised : outcome answer labels counts met queue ≡ o) where
-  of-entries : {entries : ℕ} → answer ≡ Built.Entries entries
-      → outs 0 0 (entries ∷ []) (labels ∷ (counts ∷ (met ∷ (queue ∷ [])))) ≡ buildOuts o
-  unfolding buildOuts builtNumber builtPlace builtEntries
-  of-entries e =
-      sym (ap (λ (a : Built). buildOuts (outcome a labels counts met queue)) e) ∙ ap buildOuts promised
-
-  of-refused : {r : Refusal} → answer ≡ Built.Refused r
-      → outs (r .number) (r .place) (0 ∷ []) (labels ∷ (counts ∷ (met ∷ (queue ∷ [])))) ≡ buildOuts o
-  unfolding buildOuts builtNumber builtPlace builtEntries
-  of-refused e =
-      sym (ap (λ (a : Built). buildOuts (outcome a labels counts met queue)) e) ∙ ap buildOuts promised
+-- the arm that found the answer to be `found`
+arm : {answer found : Built} {labels counts met queue : List ℕ} {o : Outcome} → outcome answer labels counts met queue ≡ o
+    → answer ≡ found → buildOuts (outcome found labels counts met queue) ≡ buildOuts o
+arm {labels} {counts} {met} {queue} promised e =
+    ap buildOuts (sym (ap (λ (a : Built). outcome a labels counts met queue) e) ∙ promised)
 
 build-requires : tie.Need-build-requires
 build-requires c κs = search needs
@@ -45,7 +37,9 @@ same-length-4 : tie.Need-same-length-4
 same-length-4 c = search needs
 
 returns : tie.Need-returns
-returns c = of-entries (c .before .before .before .before .before .before .before .before .before .before .before .build .ensures) (c .before .total .given .1)
+unfolding buildOuts builtNumber builtPlace builtEntries
+returns c =
+    arm (c .before .before .before .before .before .before .before .before .before .before .before .build .ensures) (c .before .total .given .1)
 
 same-length-5 : tie.Need-same-length-5
 same-length-5 c = search needs
@@ -60,7 +54,9 @@ same-length-8 : tie.Need-same-length-8
 same-length-8 c = search needs
 
 returns-2 : tie.Need-returns-2
-returns-2 c = of-refused (c .before .before .before .before .before .before .before .before .before .before .before .build .ensures) (c .before .r .given .1)
+unfolding buildOuts builtNumber builtPlace builtEntries
+returns-2 c =
+    arm (c .before .before .before .before .before .before .before .before .before .before .before .build .ensures) (c .before .r .given .1)
 
 pub seam-build-spec : {M : Type 1} → statement M
 seam-build-spec =

@@ -1,4 +1,4 @@
--- Each arm gives what the definition gives for that answer, and the spread question promises the answer's numbers.
+-- Each arm gives the numbers of that answer, and the spread question promises the answer.
 use mathlib.Core.Path.{sym, ap, _∙_}
 use borrow.Author.Needs.{needs}
 use Rattle.rows.specs.Spread.{spreadTold}
@@ -19,14 +19,12 @@ enum-known-r c = search needs
 returns : tie.Need-returns
 unfolding spreadOuts spreadTold
 returns c =
-    sym (ap (λ (a : SpreadAnswer). spreadOuts (spreadTold a)) (c .before .joins .given .1))
-    ∙ ap spreadOuts (c .before .before .before .spread .ensures .1)
+    ap (λ (a : SpreadAnswer). spreadOuts (spreadTold a)) (sym (c .before .joins .given .1) ∙ c .before .before .before .spread .ensures)
 
 returns-2 : tie.Need-returns-2
 unfolding spreadOuts spreadTold
 returns-2 c =
-    sym (ap (λ (a : SpreadAnswer). spreadOuts (spreadTold a)) (c .before .r .given .1))
-    ∙ ap spreadOuts (c .before .before .before .spread .ensures .1)
+    ap (λ (a : SpreadAnswer). spreadOuts (spreadTold a)) (sym (c .before .r .given .1) ∙ c .before .before .before .spread .ensures)
 
 pub seam-spread-spec : {M : Type 1} → statement M
 seam-spread-spec = tie.close (tie.spec spread-requires enum-known-joins enum-known-r returns returns-2)

@@ -31,7 +31,7 @@ returns : tie.Need-returns
 returns c =
     let start : _ = c .before .before .before .before .before .before .before .before .before .before .before in (
       subst (λ (t : List ℕ). Put (start .args .out .now) 0 t (c .before .before .refused .last .0) (c .before .before .refused .result))
-          (text-refused (start .args .n) (start .args .k) (start .args .order .now) (start .args .labels .now) (start .args .counts .now) (sym (c .before .before .before .before .before .before .spread .ensures .0) ∙ c .before .before .before .before .enum-told .given .1))
+          (text-refused (start .args .n) (start .args .k) (start .args .order .now) (start .args .labels .now) (start .args .counts .now) (sym (c .before .before .before .before .before .before .spread .ensures) ∙ c .before .before .before .before .enum-told .given .1))
           (c .before .before .refused .ensures .0),
       omega (arith, c .before .before .refused .ensures .1),
     )
@@ -44,7 +44,7 @@ head-requires c κs = search needs
 
 lines-requires : tie.Need-lines-requires
 lines-requires c κs = (
-  shown-by (c .before .before .before .before .before .before .before .before .before .before .before .before .before .before .args .n) (c .before .before .before .before .before .before .before .answer .given .0 .0) (sym (c .before .before .before .before .before .before .before .before .before .spread .ensures .0) ∙ c .before .before .before .before .before .before .before .answer .given .1) (c .before .before .before .before .before .before .before .before .before .before .before .before .before .before .pre .0),
+  shown-by (c .before .before .before .before .before .before .before .before .before .before .before .before .before .before .args .n) (c .before .before .before .before .before .before .before .answer .given .0 .0) (sym (c .before .before .before .before .before .before .before .before .before .spread .ensures) ∙ c .before .before .before .before .before .before .before .answer .given .1) (c .before .before .before .before .before .before .before .before .before .before .before .before .before .before .pre .0),
   omega (arith, c .before .before .before .head .ensures .1, c .before .before .before .head .ensures .0 .long, c .before .before .before .before .before .before .before .before .before .before .before .before .before .before .pre .0 .frames, c .before .before .before .before .before .before .before .before .before .before .before .before .before .before .pre .1),
 )
 
@@ -56,7 +56,7 @@ returns-2 c =
     let start : _ = c .before .before .before .before .before .before .before .before .before .before .before .before .before .before .before .before .before in (
       subst (λ (t : List ℕ). Put (start .args .out .now) 0 t (c .before .before .lines .last .0) (c .before .before .lines .result))
           (ap (λ (m : ℕ). headText (start .args .n) (start .args .k) m (c .before .before .before .before .before .before .before .before .before .before .answer .given .0 .0) ++ linesText WIDTH (start .args .order .now) (start .args .labels .now) (start .args .counts .now) 0 (length (start .args .counts .now))) (c .before .before .before .before .before .before .before .before .total .ensures)
-          ∙ text-shown (start .args .n) (start .args .k) (start .args .order .now) (start .args .labels .now) (start .args .counts .now) (sym (c .before .before .before .before .before .before .before .before .before .before .before .before .spread .ensures .0) ∙ c .before .before .before .before .before .before .before .before .before .before .answer .given .1))
+          ∙ text-shown (start .args .n) (start .args .k) (start .args .order .now) (start .args .labels .now) (start .args .counts .now) (sym (c .before .before .before .before .before .before .before .before .before .before .before .before .spread .ensures) ∙ c .before .before .before .before .before .before .before .before .before .before .answer .given .1))
           (put-more (c .before .before .before .before .before .before .head .ensures .0) (c .before .before .lines .ensures .0)),
       omega (arith, c .before .before .lines .ensures .1, c .before .before .before .before .before .before .head .ensures .1, start .pre .0 .frames),
     )

@@ -18,9 +18,9 @@ enum-told-2 : tie.Need-enum-told-2
 enum-told-2 c = search needs
 
 -- the rooms, once they are found fine
-rooms : (c : tie.After-enum-told)
-    → Rooms (c .before .before .before .before .before .args .n) (c .before .before .before .before .before .args .w)
-    (now (c .before .before .before .before .before .args .labels)) (now (c .before .before .before .before .before .args .counts))
+rooms : (c : tie.After-enum-told) →
+    let a = c .before .before .before .before .before .args in
+    Rooms (a .n) (a .w) (now (a .labels)) (now (a .counts))
 rooms c = fine-rooms _ _ _ _ (sym (c .before .before .check-rooms .ensures) ∙ c .enum-told .given .1)
 
 returns : tie.Need-returns
@@ -43,14 +43,19 @@ returns-2 c =
     ∙ rows-fine (a .bound) (a .n) (a .w) (now (a .labels)) (now (a .counts))
     (sym (c .before .first-unsound .ensures) ∙ c .if1 .taken))
 
+refused-requires : tie.Need-refused-requires
+refused-requires c κs = search needs
+
 returns-3 : tie.Need-returns-3
 returns-3 c =
-    let a = c .before .before .before .before .before .before .before .args in
-    sym
-    (rows-alone (a .bound) (a .n) (a .w) (now (a .labels)) (now (a .counts)) (rooms (c .before .before))
-    ∙ rows-refused (a .bound) (a .n) (a .w) (now (a .labels)) (now (a .counts)) (c .before .first-unsound .ensures) (c .if1 .left))
+    let d = c .before .before in
+    let a = d .before .before .before .before .before .before .args in
+    c .refused .ensures
+    ∙ sym
+    (rows-alone (a .bound) (a .n) (a .w) (now (a .labels)) (now (a .counts)) (rooms (d .before))
+    ∙ rows-refused (a .bound) (a .n) (a .w) (now (a .labels)) (now (a .counts)) (d .first-unsound .ensures) (c .before .if1 .left))
 
 pub check-rows-spec : {M : Type 1} → statement M
 check-rows-spec =
     tie.close
-    (tie.spec check-rooms-requires enum-told enum-told-2 returns first-unsound-requires returns-2 returns-3)
+    (tie.spec check-rooms-requires enum-told enum-told-2 returns first-unsound-requires refused-requires returns-2 returns-3)

@@ -46,13 +46,15 @@ whole n w labels counts v p e =
     )
 
 -- the check, once it is found fine
-fine : (c : tie.After-enum-told)
-    → checkRow (c .before .before .before .before .before .args .n) (c .before .before .before .before .before .args .w) (now (c .before .before .before .before .before .args .labels)) (now (c .before .before .before .before .before .args .counts)) (c .before .before .before .before .before .args .v)
-    ≡ Fine
+fine : (c : tie.After-enum-told) →
+    let a = c .before .before .before .before .before .args in
+    checkRow (a .n) (a .w) (now (a .labels)) (now (a .counts)) (a .v) ≡ Fine
 fine c = sym (c .before .before .check-row .ensures) ∙ c .enum-told .given .1
 
 -- the frame then has a count
-counted : (c : tie.After-enum-told) → c .before .before .before .before .before .args .v < length (now (c .before .before .before .before .before .args .counts))
+counted : (c : tie.After-enum-told) →
+    let a = c .before .before .before .before .before .args in
+    a .v < length (now (a .counts))
 counted c =
     let (r, h, s) = row-checked _ _ _ _ _ (fine c) in
     omega (arith, r .each)

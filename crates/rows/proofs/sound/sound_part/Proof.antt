@@ -1,5 +1,6 @@
--- The loop's invariant: no entry before `at` is faulty, and `floor` is one more than the rank before `at`, 0 at the
--- start. An entry that passes the three tests is not faulty, one that fails any of them is. What is left of the row shrinks.
+-- The loop's invariant: no entry before `at` is faulty under the bound `floor`, which is one more than the rank before
+-- `at`, 0 at the start. An entry that passes both tests is not faulty under the next floor, one that fails any of them is
+-- under any bound. At the end the last entry holds the highest rank. What is left of the row shrinks.
 use Prim.Native.Nat.{ℕ, zero, suc, _+_, _-_, _*_, _≤_, _<_}
 use mathlib.Core.Path.{_≡_, refl, sym, ap, _∙_}
 use mathlib.Core.Bool.{Bool, true, false, not}
@@ -9,20 +10,21 @@ use native.Mathlib.Nat.{add-sub-cancel}
 use native.Mathlib.Omega.{arith}
 use borrow.Author.Count.{below-more}
 use borrow.Author.Needs.{needs}
+use borrow.Author.Tests.{le-leb, lt-leb}
 use lib.ListN.{length, getD}
 use denote.Ref.{now}
 use Rattle.basics.specs.Places.{some}
-use Rattle.basics.proofs.Laws.{by-cases, some-one, some-none, not-of-true, not-of-false}
+use Rattle.basics.proofs.Laws.{by-cases, lt-or-ge, some-one, some-none, not-of-true, not-of-false}
 use Rattle.rows.specs.Entry.{rankOf, joinsOf}
 use Rattle.rows.specs.Rooms.{faultyEntry}
-use Rattle.rows.proofs.Laws.{faultless, faulty-rank, faulty-joins, faulty-rise}
+use Rattle.rows.proofs.Laws.{rank-small, faultless, faultless-higher, faulty-rank, faulty-joins, faulty-rise}
 use Rattle.rows.proofs.sound.sound_part.Statement.{statement}
 use Rattle.rows.proofs.sound.sound_part.Tie as tie
 
 abbrev Inv-loop : tie.InvT-loop
 Inv-loop bound n row floor₀ at₀ floor at =
     (at ≤ length row)
-    × ((i : ℕ) → i < at → faultyEntry bound n row i ≡ false)
+    × ((i : ℕ) → i < at → faultyEntry floor n row i ≡ false)
     × (at ≡ 0 → floor ≡ 0)
     × (0 < at → floor ≡ rankOf (getD row (at - 1) 0) + 1)
 
@@ -64,20 +66,16 @@ returns-2 : tie.Need-returns-2 Inv-loop μ-loop
 returns-2 c =
     let a = c .before .before .before .before .before .before .before .before .args in
     let l = c .before .before .before .before .before .before .loop in
-    let rank = c .before .before .before .rank-of .ensures in
-    refused (a .bound) (a .n) (now (a .row)) (l .at) (omega arith)
-    (faulty-rank (a .bound) (a .n) (now (a .row)) (l .at) (omega (arith, rank)))
-
-returns-3 : tie.Need-returns-3 Inv-loop μ-loop
-returns-3 c =
-    let a = c .before .before .before .before .before .before .before .before .before .args in
-    let l = c .before .before .before .before .before .before .before .loop in
-    let joins = c .before .before .before .joins-of .ensures in
+    let joins = c .before .before .joins-of .ensures in
     refused (a .bound) (a .n) (now (a .row)) (l .at) (omega arith)
     (faulty-joins (a .bound) (a .n) (now (a .row)) (l .at) (omega (arith, joins)))
 
 add-floor : tie.Need-add-floor Inv-loop μ-loop
-add-floor c = search needs
+add-floor c =
+    let a = c .before .before .before .before .before .before .before .before .args in
+    let l = c .before .before .before .before .before .before .loop in
+    let fits = c .before .before .before .before .shared-slice-known2 .given (l .at) in
+    record { fits = omega (arith, c .before .before .before .rank-of .ensures, rank-small (getD (now (a .row)) (l .at) 0) (omega (arith, fits))) }
 
 add-at : tie.Need-add-at Inv-loop μ-loop
 add-at c = search needs
@@ -87,26 +85,36 @@ loop-less c = search needs
 
 loop-again : tie.Need-loop-again Inv-loop μ-loop
 loop-again c =
-    let a = c .before .before .before .before .before .before .before .before .before .args in
-    let l = c .before .before .before .before .before .before .before .loop in
-    let rank = c .before .before .before .before .rank-of .ensures in
-    let joins = c .before .before .before .joins-of .ensures in (
+    let a = c .before .before .before .before .before .before .before .before .args in
+    let l = c .before .before .before .before .before .before .loop in
+    let rank = c .before .before .before .rank-of .ensures in
+    let joins = c .before .before .joins-of .ensures in (
       omega arith,
-      below-more _ _ (l .inv .1)
-          (faultless (a .bound) (a .n) (now (a .row)) (l .at) (omega (arith, rank)) (omega (arith, joins))
+      below-more _ _ (λ i h. faultless-higher (a .n) (now (a .row)) i (omega arith) (l .inv .1 i h))
+          (faultless _ (a .n) (now (a .row)) (l .at) (omega (arith, rank)) (omega (arith, joins))
           (λ h. omega (arith, rank, l .inv .3 h))),
       (λ e. absurd (omega arith)),
       (λ h. rw add-sub-cancel (ap (λ (k : ℕ). k + 1) rank)),
     )
 
-returns-4 : tie.Need-returns-4 Inv-loop μ-loop
-returns-4 c =
+returns-3 : tie.Need-returns-3 Inv-loop μ-loop
+returns-3 c =
     let a = c .before .before .before .args in
     let l = c .before .loop in
-    sym
+    lt-or-ge (a .bound) (l .floor)
+    (λ h.
+    lt-leb (l .floor) (a .bound) h
+    ∙ by-cases (ℕ-discrete (l .at) 0)
+    (λ (e : l .at ≡ 0). absurd (omega (arith, l .inv .2 e)))
+    (λ e.
+    refused (a .bound) (a .n) (now (a .row)) (l .at - 1) (omega arith)
+    (faulty-rank (a .bound) (a .n) (now (a .row)) (l .at - 1) (omega (arith, l .inv .3 (omega arith))))))
+    (λ h.
+    le-leb (l .floor) (a .bound) h
+    ∙ sym
     (not-of-false
     (some-none (faultyEntry (a .bound) (a .n) (now (a .row))) 0 (length (now (a .row)))
-    (λ i h k. l .inv .1 i (omega arith))))
+    (λ i p q. faultless-higher (a .n) (now (a .row)) i h (l .inv .1 i (omega arith))))))
 
 pub sound-part-spec : {M : Type 1} → statement M
 sound-part-spec =
@@ -121,9 +129,8 @@ sound-part-spec =
     joins-of-requires
     returns
     returns-2
-    returns-3
     add-floor
     add-at
     loop-less
     loop-again
-    returns-4)
+    returns-3)

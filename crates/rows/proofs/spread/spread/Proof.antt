@@ -1,72 +1,133 @@
--- A refusal of the test of all rows stands; behind a fine one every row is fit for the search.
-use Prim.Native.Nat.{ℕ, _*_}
+-- The loop's invariant: the rooms are fine, every row before v is sound, and what was found is the largest over those
+-- rows. The first row that is not sound is refused; the frames left shrink.
+use Prim.Native.Nat.{ℕ, _+_, _-_, _*_, _≤_, _<_, max}
 use mathlib.Core.Path.{_≡_, refl, sym, ap, _∙_}
-use mathlib.Core.List.{List}
+use mathlib.Core.Bool.{true}
+use native.Mathlib.Numerals.{add-one}
 use native.Mathlib.Omega.{arith}
+use borrow.Author.Count.{below-more}
 use borrow.Author.Needs.{needs}
+use borrow.Author.Tests.{not-true, not-false}
 use denote.Ref.{now}
-use Rattle.refusal.specs.declared.Verdict.the-variants as verdicts
-use Rattle.rows.specs.Rooms.{checkRows}
-use Rattle.rows.specs.Spread.{farthest, spreadBy, spreadOf, spreadTold, spreadNumbers}
-use Rattle.rows.specs.declared.spread.SpreadAnswer.{SpreadAnswer}
-use Rattle.rows.specs.declared.spread.SpreadAnswer.the-variants.{Spread}
-use Rattle.rows.proofs.SpreadLaws.{rows-in, farthest-small, spread-told}
+use Rattle.rows.specs.Rooms.{Rooms, rowAt, soundRow}
+use Rattle.rows.specs.Spread.{farthest}
+use Rattle.rows.proofs.Laws.{row-inside}
+use Rattle.rows.proofs.RoomLaws.{fine-rooms, rooms-refused, sound-rows, unsound-row}
+use Rattle.rows.proofs.SpreadLaws.{sound-front, farthest-small, spread-fine, spread-refused}
 use Rattle.rows.proofs.spread.spread.Statement.{statement}
 use Rattle.rows.proofs.spread.spread.Tie as tie
 
--- both promises from the first
-outcome : (n w : ℕ) (labels counts : List ℕ) {r : SpreadAnswer} → r ≡ spreadOf n w labels counts
-    → (r ≡ spreadOf n w labels counts) × (spreadTold r ≡ spreadNumbers n w labels counts)
-outcome n w labels counts e = (e, ap spreadTold e ∙ spread-told n w labels counts)
+abbrev Inv-loop : tie.InvT-loop
+Inv-loop n w labels counts found₀ v₀ found v =
+    Rooms n w labels counts
+    × (v ≤ n)
+    × ((u : ℕ) → u < v → soundRow n n w labels counts u ≡ true)
+    × (found ≡ farthest w labels counts v)
 
--- the rows, once they are found fine
-fine : (c : tie.After-enum-told)
-    → checkRows (c .before .before .before .before .before .args .n) (c .before .before .before .before .before .args .n) (c .before .before .before .before .before .args .w) (now (c .before .before .before .before .before .args .labels)) (now (c .before .before .before .before .before .args .counts))
-    ≡ verdicts.Fine
-fine c = sym (c .before .before .check-rows .ensures) ∙ c .enum-told .given .1
+abbrev μ-loop : tie.MeasureT-loop
+μ-loop n w labels counts found₀ v₀ found v = n - v
 
-check-rows-requires : tie.Need-check-rows-requires
-check-rows-requires c κs = search needs
+check-rooms-requires : tie.Need-check-rooms-requires Inv-loop μ-loop
+check-rooms-requires c κs = search needs
 
-enum-known-rows : tie.Need-enum-known-rows
-enum-known-rows c = search needs
+enum-known-rooms : tie.Need-enum-known-rooms Inv-loop μ-loop
+enum-known-rooms c = search needs
 
-returns : tie.Need-returns
-unfolding spreadOf spreadBy
+returns : tie.Need-returns Inv-loop μ-loop
 returns c =
     let a = c .before .before .before .before .before .before .args in
-    outcome (a .n) (a .w) (now (a .labels)) (now (a .counts))
-    (sym
-    (ap (λ x. spreadBy x (farthest (a .w) (now (a .labels)) (now (a .counts)) (a .n)))
-    (sym (c .before .before .before .check-rows .ensures) ∙ c .before .rows .given .1)))
+    spread-refused (a .n) (a .w) (now (a .labels)) (now (a .counts))
+    (rooms-refused (a .n) (a .n) (a .w) (now (a .labels)) (now (a .counts))
+    (sym (c .before .before .before .check-rooms .ensures) ∙ c .before .rooms .given .1))
 
-enum-told : tie.Need-enum-told
+enum-told : tie.Need-enum-told Inv-loop μ-loop
 enum-told c = search needs
 
-farthest-of-requires : tie.Need-farthest-of-requires
-farthest-of-requires c κs = rows-in _ _ _ _ (fine c)
+loop-holds : tie.Need-loop-holds Inv-loop μ-loop
+unfolding farthest
+loop-holds c = (
+  fine-rooms _ _ _ _ (sym (c .before .before .check-rooms .ensures) ∙ c .enum-told .given .1),
+  omega arith,
+  (λ u h. absurd (omega arith)),
+  refl,
+)
 
-mul-twice : tie.Need-mul-twice
-mul-twice c =
-    let a = c .before .before .before .before .before .before .args in
-    omega (arith, c .farthest-of .ensures, farthest-small (a .w) (now (a .labels)) (now (a .counts)) (a .n))
+front-joins-requires : tie.Need-front-joins-requires Inv-loop μ-loop
+front-joins-requires c κs =
+    let a = c .before .before .before .before .before .before .before .args in
+    let l = c .before .loop in
+    let r = l .inv .0 in (
+      omega (arith, r .each),
+      omega (arith, r .places, row-inside {v = l .v} {n = a .n} {c = 1} {w = a .w} (c .loop-test .taken) (r .some-width)),
+    )
 
-returns-2 : tie.Need-returns-2
-unfolding spreadOf spreadBy
+sound-row-requires : tie.Need-sound-row-requires Inv-loop μ-loop
+sound-row-requires c κs = (c .before .before .loop .inv .0, c .before .loop-test .taken)
+
+returns-2 : tie.Need-returns-2 Inv-loop μ-loop
 returns-2 c =
-    let a = c .before .before .before .before .before .before .args in
-    outcome (a .n) (a .w) (now (a .labels)) (now (a .counts))
-    (ap (λ (d : ℕ). Spread (2 * d)) (c .farthest-of .ensures)
-    ∙ sym (ap (λ x. spreadBy x (farthest (a .w) (now (a .labels)) (now (a .counts)) (a .n))) (fine (c .before))))
+    let a = c .before .before .before .before .before .before .before .before .before .before .args in
+    let l = c .before .before .before .before .loop in
+    spread-refused (a .n) (a .w) (now (a .labels)) (now (a .counts))
+    (unsound-row (a .n) (l .inv .0) (l .v) (c .before .before .before .loop-test .taken) (l .inv .2)
+    (sym (c .before .sound-row .ensures) ∙ not-true _ (c .if1 .taken)))
+
+larger-requires : tie.Need-larger-requires Inv-loop μ-loop
+larger-requires c κs = search needs
+
+add-v : tie.Need-add-v Inv-loop μ-loop
+add-v c = search needs
+
+loop-less : tie.Need-loop-less Inv-loop μ-loop
+loop-less c = search needs
+
+loop-again : tie.Need-loop-again Inv-loop μ-loop
+unfolding farthest
+loop-again c =
+    let a = c .before .before .before .before .before .before .before .before .before .before .before .args in
+    let l = c .before .before .before .before .before .loop in
+    let k = c .before .before .before .before .loop-test .taken in
+    let sound = sym (c .before .before .sound-row .ensures) ∙ not-false _ (c .before .if1 .left) in (
+      l .inv .0,
+      omega arith,
+      below-more _ _ (l .inv .2) sound,
+      c .larger .ensures
+          ∙ (λ i. max ((c .before .before .before .front-joins .ensures ∙ sym (sound-front (l .inv .0) k sound)) i) (l .inv .3 i))
+          ∙ sym (ap (λ (v : ℕ). farthest (a .w) (now (a .labels)) (now (a .counts)) v) (add-one (l .v))),
+    )
+
+mul-twice : tie.Need-mul-twice Inv-loop μ-loop
+mul-twice c =
+    let a = c .before .before .before .before .before .before .before .args in
+    let l = c .before .loop in
+    record { fits = omega (arith, l .inv .3, farthest-small (a .w) (now (a .labels)) (now (a .counts)) (l .v)) }
+
+returns-3 : tie.Need-returns-3 Inv-loop μ-loop
+returns-3 c =
+    let a = c .before .before .before .before .before .before .before .args in
+    let l = c .before .loop in
+    let e : l .v ≡ a .n = omega arith in
+    spread-fine (a .n) (a .w) (now (a .labels)) (now (a .counts))
+    (sound-rows (a .n) (a .n) (a .w) (now (a .labels)) (now (a .counts)) (l .inv .0) (λ u h. l .inv .2 u (omega arith)))
+    (l .inv .3 ∙ ap (λ (v : ℕ). farthest (a .w) (now (a .labels)) (now (a .counts)) v) e)
 
 pub spread-spec : {M : Type 1} → statement M
 spread-spec =
     tie.close
     (tie.spec
-    check-rows-requires
-    enum-known-rows
+    Inv-loop
+    μ-loop
+    check-rooms-requires
+    enum-known-rooms
     returns
     enum-told
-    farthest-of-requires
+    loop-holds
+    front-joins-requires
+    sound-row-requires
+    returns-2
+    larger-requires
+    add-v
+    loop-less
+    loop-again
     mul-twice
-    returns-2)
+    returns-3)
