@@ -20,7 +20,7 @@ use Rattle.build.specs.Settle.{WalkIn, WalkOut, walkedRows, ifMade, verd
 use Rattle.build.specs.declared.settle.Walked.{Walked}
 use Rattle.build.specs.declared.settle.Walked.the-variants.{Made, Full, Far}
 use Rattle.build.proofs.RoomLaws.{labels-ext, counts-ext, length-labels, length-counts}
-use Rattle.build.proofs.RunLaws.{laid-back, sound-back, rows-next, walk-is}
+use Rattle.build.proofs.RunLaws.{Ruled, laid-back, sound-back, rows-next, walk-is}
 use Rattle.build.proofs.RunStops.{stops, labels-empty, counts-empty, fit-upto, stop-here, run-full, run-far, stop-end, run-end}
 
 made-is : {walked : Walked} → walked ≡ Made → (x y : List ℕ) → ifMade walked x y ≡ x
@@ -83,11 +83,19 @@ run-lengths {n} {w} {r = r} {S} {L} {O} i s = (
 module _ {n w k : ℕ} {S L O labels₀ counts₀ met₀ queue₀ noted₀ labels counts met queue noted : List ℕ} {r : ℕ}
     (i : RunIn n w k S L O labels₀ counts₀ met₀ queue₀ noted₀) (s : Running n w k S L O r labels counts met queue noted)
     (h : r < k) where
-  fit : (v : ℕ) → v < n → length (rowBy n S L O r v) ≤ w
-  fit = fit-upto n w S L O r (s .none)
-
   below : r < n
   below = omega (arith, i .stop)
+
+  ruled : Ruled n w S L O r
+  ruled =
+      record {
+        block = i .block;
+        order = i .order;
+        frames = i .frames;
+        wide = i .wide;
+        below = omega (arith, below);
+        fit = fit-upto n w S L O r (s .none);
+      }
 
   pub run-long : length counts ≡ n
   run-long = ap length (s .numbers) ∙ length-counts n (rowBy n S L O r)
@@ -104,13 +112,13 @@ module _ {n w k : ℕ} {S L O labels₀ counts₀ met₀ queue₀ noted₀ label
               width = i .width;
               block = i .block;
               labels-long = length-labels n w (rowBy n S L O r);
-              rows = sound-back (i .block) (i .order) w r (i .frames) (i .wide) (omega (arith, below)) fit;
+              rows = sound-back ruled;
               hub-in = i .order .inside r below;
               met-zero = s .met-zero;
               queue-zero = s .queue-zero;
               noted-far = s .noted-far;
             };
-        laid = laid-back (i .block) (i .order) w r (i .frames) (i .wide) (omega (arith, below)) fit;
+        laid = laid-back ruled;
       })
 
   module _ {walked : Walked} {labels′ counts′ met′ queue′ noted′ : List ℕ}
@@ -120,7 +128,7 @@ module _ {n w k : ℕ} {S L O labels₀ counts₀ met₀ queue₀ noted₀ label
     out = rw (run-long, s .rows, s .numbers) at o
 
     which : walked ≡ cond (fullAt n w S L O r) Full (cond (farAt n S L O r) Far Made)
-    which = out .answer ∙ walk-is (i .block) (i .order) w r (i .frames) (i .wide) (omega (arith, below)) fit below
+    which = out .answer ∙ walk-is ruled below
 
     is-full : fullAt n w S L O r ≡ true → walked ≡ Full
     is-full e = which ∙ cond-true _ _ e
@@ -138,7 +146,7 @@ module _ {n w k : ℕ} {S L O labels₀ counts₀ met₀ queue₀ noted₀ label
         let after : (v : ℕ) → v < n
         → walkedRows n w S L (labelsOf n w (rowBy n S L O r)) (countsOf n (rowBy n S L O r)) r (hubOf O r) v ≡ rowBy n S L O (r + 1) v =
         λ v l.
-        rows-next (i .block) (i .order) w r (i .frames) (i .wide) (omega (arith, below)) fit below v l
+        rows-next ruled below v l
         ∙ ap (λ (j : ℕ). rowBy n S L O j v) (sym (add-one r)) in
         record {
           upto = omega arith;

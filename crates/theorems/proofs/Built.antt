@@ -126,7 +126,16 @@ module _ {n w k : ℕ} {S L O : List ℕ} {entries : ℕ} {labels counts met que
   unfolding rowsIn
   built-row v p =
       (λ i. decode (rowAt w (m .label-room i) (m .count-room i) v))
-      ∙ rows-back (m .block) (m .order) w k (m .frames .1) (m .width .0) (m .stop) (m .narrow) v p
+      ∙ rows-back
+      (record {
+        block = m .block;
+        order = m .order;
+        frames = m .frames .1;
+        wide = m .width .0;
+        below = m .stop;
+        fit = m .narrow;
+      })
+      v p
 
   -- the rooms of an unrefused build hold the rows of the rule
   pub built-held : Held n w k S L O labels counts

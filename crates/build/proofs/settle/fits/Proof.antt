@@ -5,7 +5,7 @@ use mathlib.Core.Path.{_≡_, sym, _∙_}
 use mathlib.Core.Bool.{false}
 use native.Mathlib.Omega.{arith}
 use borrow.Author.Count.{below-more}
-use lib.ListN.{getD}
+use lib.ListN.{length, getD}
 use Rattle.build.specs.Settle.{lacksRoom}
 use Rattle.build.proofs.RoomMarks.{fits-done, fits-not}
 use Rattle.build.proofs.settle.fits.Statement.{statement}
@@ -30,26 +30,35 @@ shared-slice-read-v c = omega arith
 cast-v : tie.Need-cast-v Inv-loop μ-loop
 cast-v c = omega (arith, c .shared-slice-known4 .given (c .before .before .loop .at))
 
+-- the frame at the place that a turn looks at lies in the rooms and is met
+low : (c : tie.In-loop Inv-loop μ-loop)
+    → getD (c .before .before .before .before .before .args .queue .now) (c .before .loop .at) 0 < length (c .before .before .before .before .before .args .met .now)
+low c = c .before .before .before .before .before .pre .1 .low (c .before .loop .at) (c .loop-test .taken)
+
 mul-lacks-room : tie.Need-mul-lacks-room Inv-loop μ-loop
-mul-lacks-room c = omega (arith, c .before .before .before .before .before .before .pre .1 .low (c .before .before .loop .at) (c .before .loop-test .taken))
+mul-lacks-room c = omega (arith, low (c .before))
 
 shared-slice-read-lacks-room : tie.Need-shared-slice-read-lacks-room Inv-loop μ-loop
-shared-slice-read-lacks-room c = omega (arith, c .before .before .before .before .before .before .before .pre .1 .low (c .before .before .before .loop .at) (c .before .before .loop-test .taken))
+shared-slice-read-lacks-room c = omega (arith, low (c .before .before), c .before .before .before .before .before .before .before .pre .0)
 
 mul-lacks-room-2 : tie.Need-mul-lacks-room-2 Inv-loop μ-loop
-mul-lacks-room-2 c = omega (arith, c .before .before .before .before .before .before .before .pre .1 .low (c .before .before .before .loop .at) (c .before .before .loop-test .taken))
+mul-lacks-room-2 c = omega (arith, low (c .before .before))
 
 shared-slice-read-lacks-room-2 : tie.Need-shared-slice-read-lacks-room-2 Inv-loop μ-loop
-shared-slice-read-lacks-room-2 c = omega (arith, c .before .before .before .before .before .before .before .before .pre .1 .low (c .before .before .before .before .loop .at) (c .before .before .before .loop-test .taken))
+shared-slice-read-lacks-room-2 c = low (c .before .before .before)
 
 lacks-room-requires : tie.Need-lacks-room-requires Inv-loop μ-loop
-lacks-room-requires c κs = c .before .before .before .before .before .before .before .before .pre .1 .marked (c .before .before .before .before .loop .at) (c .before .before .before .loop-test .taken)
+lacks-room-requires c κs =
+    let t = c .before .before .before in
+    t .before .before .before .before .before .pre .1 .marked (t .before .loop .at) (t .loop-test .taken)
 
 returns : tie.Need-returns Inv-loop μ-loop
 returns c =
-    let s = c .before .before .before .before .before .before .before .before .before .before in
+    let t = c .before .before .before .before .before in
+    let s = t .before .before .before .before .before in
     sym
-    (fits-not (s .args .w) (s .args .counts .now) (s .pre .1) (c .before .before .before .before .before .before .loop .at) (c .before .before .before .before .before .loop-test .taken) (sym (c .before .lacks-room .ensures) ∙ c .if1 .taken))
+    (fits-not (s .args .w) (s .args .counts .now) (s .pre .1) (t .before .loop .at) (t .loop-test .taken)
+    (sym (c .before .lacks-room .ensures) ∙ c .if1 .taken))
 
 add-at : tie.Need-add-at Inv-loop μ-loop
 add-at c = omega arith

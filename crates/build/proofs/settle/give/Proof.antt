@@ -30,13 +30,16 @@ is-kept c =
     kept-mark (s .args .mark) (s .pre .met) (c .if1 .left)
 
 -- the place behind the row of v
-inside : (c : tie.Else1)
-    → c .before .before .before .args .v * c .before .before .before .args .w + getD (c .before .before .before .args .counts .now) (c .before .before .before .args .v) 0 < length (c .before .before .before .args .labels .now)
+inside : (c : tie.Else1) →
+    let a = c .before .before .before .args in
+    a .v * a .w + getD (a .counts .now) (a .v) 0 < length (a .labels .now)
 inside c =
     let p = c .before .before .before .pre in
     rw (p .long) (row-place (p .inside) (p .room (is-kept c)))
 
-few : (c : tie.Else1) → getD (c .before .before .before .args .counts .now) (c .before .before .before .args .v) 0 < 256
+few : (c : tie.Else1) →
+    let a = c .before .before .before .args in
+    getD (a .counts .now) (a .v) 0 < 256
 few c = omega (arith, c .before .before .before .pre .room (is-kept c))
 
 sub-level : tie.Need-sub-level

@@ -7,14 +7,10 @@ use native.Mathlib.Omega.{arith}
 use lib.ListN.{length, getD}
 use Rattle.theory.specs.Rows.{Row}
 use Rattle.build.specs.Build.{labelsOf, countsOf}
-use Rattle.build.specs.Settle.{rowsIn, rowsAfter}
-use Rattle.build.proofs.RoomLaws.{labels-ext, counts-ext, length-labels, length-counts, count-at}
-use Rattle.build.proofs.RoomMarks.{partly, partly-none, still, room-left, labels-step, counts-step, all-turns}
+use Rattle.build.proofs.RoomLaws.{length-labels, length-counts, count-at}
+use Rattle.build.proofs.RoomMarks.{upto, still, room-left, labels-begin, counts-begin, labels-step, counts-step, labels-end, counts-end}
 use Rattle.build.proofs.settle.store.Statement.{statement}
 use Rattle.build.proofs.settle.store.Tie as tie
-
-abbrev upto : ℕ → ℕ → List ℕ → List ℕ → List ℕ → List ℕ → ℕ → ℕ → Row
-upto w rank labels counts met queue i = partly queue i (rowsIn w labels counts) (rowsAfter w rank labels counts met)
 
 abbrev Inv-loop : tie.InvT-loop
 Inv-loop w rank labels₀ counts₀ met queue tail i₀ labels counts i =
@@ -28,16 +24,7 @@ abbrev μ-loop : tie.MeasureT-loop
 loop-holds : tie.Need-loop-holds Inv-loop μ-loop
 loop-holds c =
     let s = c .before .before .before .before in
-    let w = s .args .w in
-    let R : ℕ → Row = rowsIn w (s .args .labels .now) (s .args .counts .now) in
-    let R′ : ℕ → Row = rowsAfter w (s .args .rank) (s .args .labels .now) (s .args .counts .now) (s .args .met .now) in
-    let P : ℕ → Row = partly (s .args .queue .now) 0 R R′ in
-    let n = length (s .args .met .now) in (
-      omega arith,
-      s .pre .0 .laid .places
-          ∙ labels-ext n w R P (s .pre .0 .wide) (λ v h. sym (partly-none (s .args .queue .now) R R′ v)),
-      s .pre .0 .laid .numbers ∙ counts-ext n R P (λ v h. sym (partly-none (s .args .queue .now) R R′ v)),
-    )
+    (omega arith, labels-begin (s .args .rank) (s .pre .0) (s .pre .1), counts-begin (s .args .rank) (s .pre .0) (s .pre .1))
 
 mul-v : tie.Need-mul-v Inv-loop μ-loop
 mul-v c = omega arith
@@ -48,11 +35,16 @@ shared-slice-read-v c = omega arith
 cast-v : tie.Need-cast-v Inv-loop μ-loop
 cast-v c = omega (arith, c .shared-slice-known3 .given (c .before .before .loop .at))
 
+-- the frame at the place that a turn looks at lies in the rooms
+low : (c : tie.In-loop Inv-loop μ-loop)
+    → getD (c .before .before .before .before .before .before .args .queue .now) (c .before .loop .at) 0 < length (c .before .before .before .before .before .before .args .met .now)
+low c = c .before .before .before .before .before .before .pre .0 .queued .low (c .before .loop .at) (c .loop-test .taken)
+
 mul-give : tie.Need-mul-give Inv-loop μ-loop
-mul-give c = omega (arith, c .before .before .before .before .before .before .before .pre .0 .queued .low (c .before .before .loop .at) (c .before .loop-test .taken))
+mul-give c = omega (arith, low (c .before))
 
 shared-slice-read-give : tie.Need-shared-slice-read-give Inv-loop μ-loop
-shared-slice-read-give c = c .before .before .before .before .before .before .before .before .pre .0 .queued .low (c .before .before .before .loop .at) (c .before .before .loop-test .taken)
+shared-slice-read-give c = low (c .before .before)
 
 give-requires : tie.Need-give-requires Inv-loop μ-loop
 give-requires c κs =
@@ -64,7 +56,7 @@ give-requires c κs =
     let v = getD (s .args .queue .now) i 0 in
     let n = length (s .args .met .now) in
     let P : ℕ → Row = upto w (s .args .rank) (s .args .labels .now) (s .args .counts .now) (s .args .met .now) (s .args .queue .now) i in
-    let low : v < n = s .pre .0 .queued .low i (t .taken) in
+    let inside : v < n = s .pre .0 .queued .low i (t .taken) in
     let long : length (l .counts) ≡ n = ap length (l .inv .2) ∙ length-counts n P in
     record {
       met = s .pre .0 .queued .marked (l .at) (t .taken);
@@ -73,9 +65,9 @@ give-requires c κs =
       width = s .pre .0 .width;
       room =
           λ kept.
-          rw (ap (λ (x : List ℕ). getD x v 0) (l .inv .2) ∙ count-at n P v low
+          rw (ap (λ (x : List ℕ). getD x v 0) (l .inv .2) ∙ count-at n P v inside
           ∙ ap length (still (s .args .rank) (s .pre .0) (s .pre .1) i (t .taken)))
-          (room-left (s .args .rank) (s .pre .0) (s .pre .1) v low kept);
+          (room-left (s .args .rank) (s .pre .0) (s .pre .1) v inside kept);
     }
 
 add-at : tie.Need-add-at Inv-loop μ-loop
@@ -110,17 +102,11 @@ same-length-2 c =
 
 returns : tie.Need-returns Inv-loop μ-loop
 returns c =
+    let l = c .before .loop in
     let s = c .before .before .before .before .before .before in
-    let w = s .args .w in
-    let n = length (s .args .met .now) in
-    let R′ : ℕ → Row = rowsAfter w (s .args .rank) (s .args .labels .now) (s .args .counts .now) (s .args .met .now) in
-    let P : ℕ → ℕ → Row = upto w (s .args .rank) (s .args .labels .now) (s .args .counts .now) (s .args .met .now) (s .args .queue .now) in
-    let end : c .before .loop .at ≡ s .args .tail = omega arith in
-    let same : (v : ℕ) → v < n → P (c .before .loop .at) v ≡ R′ v =
-    λ v h. ap (λ (i : ℕ). P i v) end
-    ∙ all-turns (s .args .rank) (s .pre .0) (s .pre .1) v h in (
-      c .before .loop .inv .1 ∙ labels-ext n w (P (c .before .loop .at)) R′ (s .pre .0 .wide) same,
-      c .before .loop .inv .2 ∙ counts-ext n (P (c .before .loop .at)) R′ same,
+    let end : l .at ≡ s .args .tail = omega arith in (
+      (rw end at (l .inv .1)) ∙ labels-end (s .args .rank) (s .pre .0) (s .pre .1),
+      (rw end at (l .inv .2)) ∙ counts-end (s .args .rank) (s .pre .0) (s .pre .1),
     )
 
 pub store-spec : {M : Type 1} → statement M
