@@ -75,8 +75,7 @@ module _ (w : ℕ) (counts : List ℕ) {met queue : List ℕ} {tail : ℕ} (q : 
   pub fits-not : (j : ℕ) → j < tail → lacksRoom w (getD counts (getD queue j 0) 0) (getD met (getD queue j 0) 0) ≡ true
       → fitsAll w counts met ≡ false
   unfolding fitsAll
-  fits-not j h e =
-      not-of-true (one-bad q (λ v. lacksRoom w (getD counts v 0) (getD met v 0)) j h e)
+  fits-not j h e = not-of-true (one-bad q (λ v. lacksRoom w (getD counts v 0) (getD met v 0)) j h e)
 
 pub fits-each : (w : ℕ) (counts met : List ℕ) (v : ℕ) → fitsAll w counts met ≡ true → v < length met
     → lacksRoom w (getD counts v 0) (getD met v 0) ≡ false
@@ -142,8 +141,7 @@ module _ (queue : List ℕ) (R R′ : ℕ → Row) where
 
   pub partly-same : (tail v : ℕ) → R′ v ≡ R v → partly queue tail R R′ v ≡ R′ v
   unfolding partly
-  partly-same tail v e =
-      bcase (stood queue tail v) (λ b. cond-true _ _ b) (λ b. cond-false _ _ b ∙ sym e)
+  partly-same tail v e = bcase (stood queue tail v) (λ b. cond-true _ _ b) (λ b. cond-false _ _ b ∙ sym e)
 
 -- ---- the rows after the walk
 
@@ -177,21 +175,15 @@ module _ (rank : ℕ) {w : ℕ} {labels counts met queue : List ℕ} {tail : ℕ
       omega arith
 
   -- at its turn a frame's row is still the one before the walk
-  pub still : (i : ℕ) → i < tail
-      → turn i (getD queue i 0)
-      ≡ before (getD queue i 0)
+  pub still : (i : ℕ) → i < tail → turn i (getD queue i 0) ≡ before (getD queue i 0)
   still i h = partly-before queue before after i (λ j l. s .queued .once j i l h)
 
   -- the rows of the other frames stay at that turn
-  others : (i u : ℕ) → (u ≡ getD queue i 0 → ⊥)
-      → turn (i + 1) u
-      ≡ turn i u
+  others : (i u : ℕ) → (u ≡ getD queue i 0 → ⊥) → turn (i + 1) u ≡ turn i u
   others i u ne = partly-other queue before after i u (λ e. ne (sym e))
 
   -- a dropped frame's turn changes nothing
-  idle : (i : ℕ) → i < tail → isKept (getD met (getD queue i 0) 0) ≡ false → (u : ℕ)
-      → turn i u
-      ≡ turn (i + 1) u
+  idle : (i : ℕ) → i < tail → isKept (getD met (getD queue i 0) 0) ≡ false → (u : ℕ) → turn i u ≡ turn (i + 1) u
   idle i h k u =
       by-cases (ℕ-discrete u (getD queue i 0))
       (λ (e : u ≡ getD queue i 0).
@@ -200,17 +192,14 @@ module _ (rank : ℕ) {w : ℕ} {labels counts met queue : List ℕ} {tail : ℕ
 
   -- a kept frame's turn puts (rank, level) behind its row
   grown : (i : ℕ) → i < tail → isKept (getD met (getD queue i 0) 0) ≡ true
-      → turn (i + 1) (getD queue i 0)
-      ≡ turn i (getD queue i 0)
-      ++ ((rank, getD met (getD queue i 0) 0 - 1) ∷ [])
+      → turn (i + 1) (getD queue i 0) ≡ turn i (getD queue i 0) ++ ((rank, getD met (getD queue i 0) 0 - 1) ∷ [])
   grown i h k =
       partly-after queue before after i
       ∙ after-kept w rank labels counts met (getD queue i 0) k
       ∙ ap (λ (x : Row). x ++ ((rank, getD met (getD queue i 0) 0 - 1) ∷ [])) (sym (still i h))
 
   -- what a turn stores in the label room
-  pub labels-step : (i : ℕ) (L C : List ℕ) → i < tail
-      → L ≡ labelsOf (length met) w (turn i)
+  pub labels-step : (i : ℕ) (L C : List ℕ) → i < tail → L ≡ labelsOf (length met) w (turn i)
       → C ≡ countsOf (length met) (turn i)
       → cond (isKept (getD met (getD queue i 0) 0))
       (set L (getD queue i 0 * w + getD C (getD queue i 0) 0) (entryOf rank (getD met (getD queue i 0) 0 - 1))) L
@@ -231,8 +220,7 @@ module _ (rank : ℕ) {w : ℕ} {labels counts met queue : List ℕ} {tail : ℕ
       ∙ labels-ext (length met) w (turn i) (turn (i + 1)) (s .wide) (λ u l. idle i h k u)))
 
   -- what it stores in the count room
-  pub counts-step : (i : ℕ) (C : List ℕ) → i < tail
-      → C ≡ countsOf (length met) (turn i)
+  pub counts-step : (i : ℕ) (C : List ℕ) → i < tail → C ≡ countsOf (length met) (turn i)
       → cond (isKept (getD met (getD queue i 0) 0)) (set C (getD queue i 0) (getD C (getD queue i 0) 0 + 1)) C
       ≡ countsOf (length met) (turn (i + 1))
   counts-step i C h q =

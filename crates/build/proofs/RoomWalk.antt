@@ -89,15 +89,11 @@ module _ {n w : ℕ} {S L labels counts : List ℕ} {hub : ℕ} {met₀ queue₀
 
   length-met : length found ≡ n
   unfolding metRoom
-  length-met =
-      length-table n (λ v. mark (far 1 n) (level v) (answered v))
+  length-met = length-table n (λ v. mark (far 1 n) (level v) (answered v))
 
-  met-at : (v : ℕ) → v < n
-      → getD found v 0
-      ≡ mark (far 1 n) (level v) (answered v)
+  met-at : (v : ℕ) → v < n → getD found v 0 ≡ mark (far 1 n) (level v) (answered v)
   unfolding metRoom
-  met-at v h =
-      getD-table n (λ u. mark (far 1 n) (level u) (answered u)) v 0 h
+  met-at v h = getD-table n (λ u. mark (far 1 n) (level u) (answered u)) v 0 h
 
   few : far 1 n < 65535
   unfolding far
@@ -135,8 +131,7 @@ module _ {n w : ℕ} {S L labels counts : List ℕ} {hub : ℕ} {met₀ queue₀
       ∙ ap (λ (b : Bool). cond (walkFits n w S L labels counts hub) (cond b Made Far) Full) none-far-is
 
   -- the rows stored are those after the walk
-  rows-are : (rank v : ℕ) → v < n
-      → rowsAfter w rank labels counts found v ≡ walkedRows n w S L labels counts rank hub v
+  rows-are : (rank v : ℕ) → v < n → rowsAfter w rank labels counts found v ≡ walkedRows n w S L labels counts rank hub v
   unfolding rowsAfter walkedRows walkRow levelOf soFar rowsIn
   rows-are rank v h =
       ap (λ (m : ℕ). gain rank m (rowsIn w labels counts v)) (met-at v h)
@@ -166,8 +161,7 @@ module _ {n w : ℕ} {S L labels counts : List ℕ} {hub : ℕ} {met₀ queue₀
         rw met-long (counts-ext n (rowsAfter w rank labels counts met) (walkedRows n w S L labels counts rank hub) (after-is rank))
 
     -- what the second half leaves, told by levels
-    pub walk-left : (rank : ℕ) → {walked : Walked} {labels′ counts′ met′ queue′ : List ℕ}
-        → walked ≡ settleOf w counts met
+    pub walk-left : (rank : ℕ) → {walked : Walked} {labels′ counts′ met′ queue′ : List ℕ} → walked ≡ settleOf w counts met
         → labels′ ≡ ifMade walked (labelsOf (length met) w (rowsAfter w rank labels counts met)) labels
         → counts′ ≡ ifMade walked (countsOf (length met) (rowsAfter w rank labels counts met)) counts
         → met′ ≡ replicate (length met) 0 → queue′ ≡ replicate (length met) 0

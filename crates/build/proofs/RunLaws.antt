@@ -99,8 +99,7 @@ module _ {n w : ℕ} {S L O : List ℕ} {r : ℕ} (g : Ruled n w S L O r) where
       let at : (rankAt (rows v) i < r) × (joinsAt (rows v) i < n) = plain-places (g .block) (g .order) r v i (g .below) h l in
       (omega arith, omega arith))
 
-  pub rows-back : (v : ℕ) → v < n
-      → rowsIn w labels counts v ≡ rows v
+  pub rows-back : (v : ℕ) → v < n → rowsIn w labels counts v ≡ rows v
   unfolding rowsIn
   rows-back v h = ap decode (row-is n w rows v h (g .fit v h)) ∙ decode-encode (rule-fits v h)
 
@@ -108,15 +107,12 @@ module _ {n w : ℕ} {S L O : List ℕ} {r : ℕ} (g : Ruled n w S L O r) where
   laid-back =
       record {
         places =
-            labels-ext n w rows (rowsIn w labels counts) (g .wide)
-            (λ v h. sym (rows-back v h));
+            labels-ext n w rows (rowsIn w labels counts) (g .wide) (λ v h. sym (rows-back v h));
         numbers =
-            counts-ext n rows (rowsIn w labels counts)
-            (λ v h. sym (rows-back v h));
+            counts-ext n rows (rowsIn w labels counts) (λ v h. sym (rows-back v h));
       }
 
-  rank-back : (v i : ℕ) → v < n → i < length (rows v)
-      → rankOf (getD (rowAt w labels counts v) i 0) ≡ rankAt (rows v) i
+  rank-back : (v i : ℕ) → v < n → i < length (rows v) → rankOf (getD (rowAt w labels counts v) i 0) ≡ rankAt (rows v) i
   rank-back v i h l =
       let at : (rankAt (rows v) i < r) × (joinsAt (rows v) i < n) = plain-places (g .block) (g .order) r v i (g .below) h l in
       ap (λ (row : List ℕ). rankOf (getD row i 0)) (row-is n w rows v h (g .fit v h))
@@ -140,16 +136,12 @@ module _ {n w : ℕ} {S L O : List ℕ} {r : ℕ} (g : Ruled n w S L O r) where
 
   module _ (less : r < n) where
     -- the walk of rank r makes the rows at r + 1
-    pub rows-next : (v : ℕ) → v < n
-        → walkedRows n w S L labels counts r (hubOf O r) v ≡ rowBy n S L O (suc r) v
+    pub rows-next : (v : ℕ) → v < n → walkedRows n w S L labels counts r (hubOf O r) v ≡ rowBy n S L O (suc r) v
     unfolding walkedRows
-    rows-next v h =
-        walk-out (g .block) (g .order) (rowsIn w labels counts) r v less h rows-back
+    rows-next v h = walk-out (g .block) (g .order) (rowsIn w labels counts) r v less h rows-back
 
     full-frame : (v : ℕ) → v < n
-        → kept n w S L labels counts (hubOf O r) v
-        && leb w (getD counts v 0)
-        ≡ ltb w (length (rowBy n S L O (suc r) v))
+        → kept n w S L labels counts (hubOf O r) v && leb w (getD counts v 0) ≡ ltb w (length (rowBy n S L O (suc r) v))
     unfolding kept walkedRows walkRow levelOf soFar rowsIn
     full-frame v h =
         let level : ℕ = levelOf n w S L labels counts (hubOf O r) v in
@@ -162,8 +154,7 @@ module _ {n w : ℕ} {S L O : List ℕ} {r : ℕ} (g : Ruled n w S L O r) where
         ∙ ap (λ (x : Row). ltb w (length x)) (rows-next v h)
 
     far-frame : (v : ℕ) → v < n
-        → kept n w S L labels counts (hubOf O r) v
-        && ltb 4095 (levelOf n w S L labels counts (hubOf O r) v)
+        → kept n w S L labels counts (hubOf O r) v && ltb 4095 (levelOf n w S L labels counts (hubOf O r) v)
         ≡ farFrame n S L O r v
     unfolding kept walkedRows walkRow levelOf soFar rowsIn farFrame rowBy ruleRow
     far-frame v h =
