@@ -8,9 +8,9 @@ use mathlib.Core.List.{List, [], _∷_, _++_}
 use native.Mathlib.Numerals.{add-one}
 use native.Mathlib.Decide.{decLt, ℕ-discrete}
 use native.Mathlib.Omega.{arith}
-use lib.ListN.{length, getD, set}
+use lib.ListN.{length, getD, set, drop, drop-of-length-le}
 use lib.Dec.{eqb}
-use lib.Seq.{ext-getD, getD-set-same, getD-set-other}
+use lib.Seq.{ext-getD, getD-set-same, getD-set-other, drop-cons}
 use borrow.Author.Tests.{eqb-true, eq-eqb}
 use Rattle.basics.specs.Places.{first, some, stands, count, least, table, sum}
 
@@ -474,3 +474,39 @@ none-first marked a left h = some-none marked a left (λ j low high. first-befor
 -- a place that a search gave is not before its start
 pub found-low : (marked : ℕ → Bool) (a left : ℕ) {i : ℕ} → i ≡ first marked a left → a ≤ i
 found-low marked a left e = omega (arith, first-low marked a left)
+
+-- ---- counts of several marks
+
+-- none is marked
+pub count-zero : (p : ℕ → Bool) (n : ℕ) → ((i : ℕ) → i < n → p i ≡ false) → count p n ≡ 0
+count-zero p zero none = count-none p
+count-zero p (suc n) none = count-miss p n (none n (omega arith)) ∙ count-zero p n (λ i h. none i (omega arith))
+
+-- what one of two marks, where never both do
+pub count-or : (p q : ℕ → Bool) (n : ℕ) → ((i : ℕ) → p i ≡ true → q i ≡ false) → count (λ i. p i || q i) n ≡ count p n + count q n
+count-or p q zero apart = omega (arith, count-none p, count-none q, count-none (λ i. p i || q i))
+count-or p q (suc n) apart =
+    let one : ℕ → Bool = λ i. p i || q i in
+    let rest : count one n ≡ count p n + count q n = count-or p q n apart in
+    bcase (p n)
+    (λ e. omega (arith, count-hit one n (either-left (p n) (q n) e), count-hit p n e, count-miss q n (apart n e)))
+    (λ e.
+    bcase (q n)
+    (λ f. omega (arith, count-hit one n (either-right (p n) (q n) f), count-miss p n e, count-hit q n f))
+    (λ f. omega (arith, count-miss one n (neither (p n) (q n) e f), count-miss p n e, count-miss q n f)))
+
+-- ---- the sum from a place on
+
+pub sum-from : (l : List ℕ) (i : ℕ) → i < length l → sum (drop i l) ≡ getD l i 0 + sum (drop (i + 1) l)
+unfolding sum
+sum-from l i h = rw (add-one i, drop-cons l i 0 h)
+
+pub sum-over : (l : List ℕ) (i : ℕ) → length l ≤ i → sum (drop i l) ≡ 0
+unfolding sum
+sum-over l i h = ap sum (drop-of-length-le l {i = i} h)
+
+pub sum-part : (l : List ℕ) (i : ℕ) → sum (drop i l) ≤ sum l
+unfolding sum
+sum-part l zero = omega arith
+sum-part [] (suc i) = omega arith
+sum-part (x ∷ l) (suc i) = omega (arith, sum-part l i)

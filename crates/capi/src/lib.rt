@@ -5,7 +5,7 @@ ghost use mathlib.Core.List.{[], _∷_};
 ghost use Rattle.links.specs.Links.{checkLinks};
 ghost use Rattle.links.specs.Order.{checkOrder, degreeOf};
 ghost use Rattle.rows.specs.Rooms.{checkRow};
-ghost use Rattle.rows.specs.Pair.{pairTold};
+ghost use Rattle.rows.specs.Pair.{pairOf, told};
 ghost use Rattle.rows.specs.Spread.{spreadOf, spreadTold};
 ghost use Rattle.build.specs.Build.{buildOf};
 ghost use Rattle.file.specs.Writer.{writeOf};
@@ -123,7 +123,7 @@ pub extern "C" fn seam_pair(
 ) -> u32
     ensures { λ r. ⌜
         outs r (now (place .exit)) (now (found .exit) ∷ (now (joins .exit) ∷ [])) []
-        ≡ pairOuts (pairTold n w (now (labels .entry)) (now (counts .entry)) s t)
+        ≡ pairOuts (told (pairOf n w (now (labels .entry)) (now (counts .entry)) s t))
         ⌝ }
 {
     match rows::pair::pair(n, w, labels, counts, s, t) {

@@ -2,12 +2,12 @@
 -- has as many bytes as the paper says.
 use Prim.Native.Nat.{ℕ, _+_, _*_, _/_, _≤_, _<_}
 use mathlib.Core.Path.{_≡_, sym, subst, _∙_}
-use mathlib.Core.Bool.{true, not, _&&_}
+use mathlib.Core.Bool.{true, not}
 use mathlib.Core.List.{List, _++_}
 use native.Mathlib.Omega.{arith}
-use borrow.Author.Tests.{le-leb, leb-true, eqb-true, eq-eqb}
+use borrow.Author.Tests.{le-leb, leb-true, eqb-true}
 use lib.ListN.{length, getD}
-use lib.Dec.{leb, eqb}
+use lib.Dec.{leb}
 use Rattle.basics.specs.Places.{sum, first}
 use Rattle.basics.proofs.Laws.{both-true, both, first-before, of-not-false}
 use Rattle.refusal.specs.Tests.{test, _then_}
@@ -16,40 +16,37 @@ use Rattle.refusal.proofs.Laws.{test-fine, test-held, then-fine, after-fine}
 use Rattle.theory.specs.Links.{Order}
 use Rattle.links.specs.Order.{orderTest}
 use Rattle.links.proofs.Order.{order-sound}
-use Rattle.rows.specs.Rooms.{Rooms, sizesFit, roomsFit, roomTests, rowAt, soundRow, rowsTest}
+use Rattle.rows.specs.Rooms.{Rooms, sizesFit, rowAt, soundRow, rowsTest}
 use Rattle.rows.proofs.Laws.{Sound, row-sound, row-inside}
-use Rattle.rows.proofs.RoomLaws.{rooms-fine, length-row}
+use Rattle.rows.proofs.RoomLaws.{Sizes, sizes-held, sizes-fit, length-row}
 use Rattle.file.specs.Bits.{bitLen, byteLen, Legal}
-use Rattle.file.specs.Layout.{headerFields, orderFields, rowFields, rowsFields, fileFields, fileOf}
-use Rattle.file.specs.Writer.{indexSizes, indexLengths, writeTests, Fit}
-use Rattle.file.specs.Pen.{RowsIn}
+use Rattle.file.specs.Layout.{headerFields, orderFields, rowFields, rowsFields, fileFields, fileOf, lengthsFit}
+use Rattle.file.specs.Writer.{indexSizes, writeTests, Fit}
+use Rattle.file.specs.Pen.{RowLies}
 use Rattle.file.proofs.Bits.{bitLen-append}
 use Rattle.file.proofs.Packed.{legal-append, packed-length}
-use Rattle.file.proofs.LayoutLaws.{header-bits, order-bits, rows-bits, order-legal, entries-legal, rows-legal}
+use Rattle.file.proofs.LayoutLaws.{header-bits, order-bits, rows-bits, order-legal, entries-legal, rows-legal, lengths-fit, fit-lengths}
 
 -- what 1 and 2 let through
-pub sizes-in : (n k w : ℕ) → indexSizes n k w ≡ true → (1 ≤ n) × (n ≤ 4096) × (1 ≤ w) × (w ≤ 256) × (k ≤ n)
-unfolding indexSizes sizesFit
+pub sizes-in : (n k w : ℕ) → indexSizes n k w ≡ true → Sizes n w × (k ≤ n)
+unfolding indexSizes
 sizes-in n k w e =
     let a : (sizesFit n w ≡ true) × (leb k n ≡ true) = both-true _ _ e in
-    let p : (leb 1 n && leb n 4096 && leb 1 w ≡ true) × (leb w 256 ≡ true) = both-true _ _ (a .0) in
-    let q : (leb 1 n && leb n 4096 ≡ true) × (leb 1 w ≡ true) = both-true _ _ (p .0) in
-    let r : (leb 1 n ≡ true) × (leb n 4096 ≡ true) = both-true _ _ (q .0) in
-    (leb-true 1 n (r .0), leb-true n 4096 (r .1), leb-true 1 w (q .1), leb-true w 256 (p .1), leb-true k n (a .1))
+    (sizes-held n w (a .0), leb-true k n (a .1))
 
-pub lengths-in : (n w : ℕ) (O labels counts : List ℕ) → indexLengths n w O labels counts ≡ true →
-    (length O ≡ n) × (length labels ≡ n * w) × (length counts ≡ n)
-unfolding indexLengths roomsFit
-lengths-in n w O labels counts e =
-    let a : (eqb (length O) n ≡ true) × (roomsFit n w labels counts ≡ true) = both-true _ _ e in
-    let b : (eqb (length labels) (n * w) ≡ true) × (eqb (length counts) n ≡ true) = both-true _ _ (a .1) in
-    (eqb-true _ _ (a .0), eqb-true _ _ (b .0), eqb-true _ _ (b .1))
-
-pub rooms-in : (n k w : ℕ) (O labels counts : List ℕ) → indexSizes n k w ≡ true → indexLengths n w O labels counts ≡ true → Rooms n w labels counts
+pub rooms-in : (n k w : ℕ) (O labels counts : List ℕ) → indexSizes n k w ≡ true
+    → lengthsFit n w (length O) (length labels) (length counts) ≡ true → Rooms n w labels counts
 rooms-in n k w O labels counts a b =
-    let s : (1 ≤ n) × (n ≤ 4096) × (1 ≤ w) × (w ≤ 256) × (k ≤ n) = sizes-in n k w a in
-    let l : (length O ≡ n) × (length labels ≡ n * w) × (length counts ≡ n) = lengths-in n w O labels counts b in
-    record { some-frames = s .0; frames = s .1; some-width = s .2; width = s .3; places = l .1; each = l .2 }
+    let (s, stop) = sizes-in n k w a in
+    let (o, places, each) = fit-lengths n w (length O) (length labels) (length counts) b in
+    record {
+      some-frames = s .some-frames;
+      frames = s .frames;
+      some-width = s .some-width;
+      width = s .width;
+      places = places;
+      each = each;
+    }
 
 module _ (n k w : ℕ) (O labels counts : List ℕ) where
   -- what the tests let through
@@ -57,16 +54,16 @@ module _ (n k w : ℕ) (O labels counts : List ℕ) where
   unfolding writeTests
   fit e =
       let a : (test (indexSizes n k w) 1 0 ≡ Fine)
-      × ((test (indexLengths n w O labels counts) 2 0 then orderTest n O then rowsTest k n w labels counts) ≡ Fine) = then-fine _ _ e in
-      let b : (test (indexLengths n w O labels counts) 2 0 ≡ Fine) × ((orderTest n O then rowsTest k n w labels counts) ≡ Fine) =
+      × ((test (lengthsFit n w (length O) (length labels) (length counts)) 2 0 then orderTest n O then rowsTest k n w labels counts) ≡ Fine) = then-fine _ _ e in
+      let b : (test (lengthsFit n w (length O) (length labels) (length counts)) 2 0 ≡ Fine) × ((orderTest n O then rowsTest k n w labels counts) ≡ Fine) =
       then-fine _ _ (a .1) in
       let d : (orderTest n O ≡ Fine) × (rowsTest k n w labels counts ≡ Fine) = then-fine _ _ (b .1) in
       let s : indexSizes n k w ≡ true = test-held _ 1 0 (a .0) in
-      let l : indexLengths n w O labels counts ≡ true = test-held _ 2 0 (b .0) in
+      let l : lengthsFit n w (length O) (length labels) (length counts) ≡ true = test-held _ 2 0 (b .0) in
       record {
         rooms = rooms-in n k w O labels counts s l;
-        stop = sizes-in n k w s .4;
-        long = lengths-in n w O labels counts l .0;
+        stop = sizes-in n k w s .1;
+        long = fit-lengths n w (length O) (length labels) (length counts) l .0;
         once = d .0;
         sound = d .1;
       }
@@ -74,11 +71,12 @@ module _ (n k w : ℕ) (O labels counts : List ℕ) where
   module _ (f : Fit n k w O labels counts) where
     -- the tests let every such index through
     pub fit-fine : writeTests n k w O labels counts ≡ Fine
-    unfolding writeTests indexSizes indexLengths roomTests
+    unfolding writeTests indexSizes
     fit-fine =
-        let r : (test (sizesFit n w) 1 0 ≡ Fine) × (test (roomsFit n w labels counts) 2 0 ≡ Fine) = then-fine _ _ (rooms-fine (f .rooms)) in
-        after-fine _ (test-fine 1 0 (both _ _ (test-held _ 1 0 (r .0)) (le-leb k n (f .stop))))
-        ∙ after-fine _ (test-fine 2 0 (both _ _ (eq-eqb (length O) n (f .long)) (test-held _ 2 0 (r .1))))
+        let r = f .rooms in
+        let sizes : sizesFit n w ≡ true = sizes-fit (r .some-frames) (r .frames) (r .some-width) (r .width) in
+        after-fine _ (test-fine 1 0 (both _ _ sizes (le-leb k n (f .stop))))
+        ∙ after-fine _ (test-fine 2 0 (lengths-fit n w (length O) (length labels) (length counts) (f .long) (r .places) (r .each)))
         ∙ after-fine _ (f .once) ∙ f .sound
 
     pub fit-order : Order n O
@@ -100,11 +98,11 @@ module _ (n k w : ℕ) (O labels counts : List ℕ) where
     fit-length v h = length-row (f .rooms) v h (fit-count v h)
 
     -- every row lies in the label room
-    pub fit-inside : RowsIn n w labels counts
-    fit-inside =
+    pub fit-lies : (v : ℕ) → v < n → RowLies w labels counts v
+    fit-lies v h =
         record {
-          frames = f .rooms .each;
-          inside = λ v h. subst (λ (m : ℕ). v * w + getD counts v 0 ≤ m) (sym (f .rooms .places)) (row-inside h (fit-count v h));
+          counted = omega (arith, f .rooms .each);
+          lies = subst (λ (m : ℕ). v * w + getD counts v 0 ≤ m) (sym (f .rooms .places)) (row-inside h (fit-count v h));
         }
 
     -- every value fits its field

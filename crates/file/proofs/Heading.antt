@@ -13,7 +13,7 @@ use Rattle.refusal.specs.declared.Verdict.{Verdict}
 use Rattle.refusal.proofs.Laws.{test-fine, test-refused, test-held, then-fine, after-fine, after-refused}
 use Rattle.file.specs.declared.Opened.{Opened}
 use Rattle.file.specs.Bits.{fieldAt, byteLen}
-use Rattle.file.specs.Reader.{shortTest, fieldTest, framesOf, stopOf, headerTest, opened, told, tellOf, Told}
+use Rattle.file.specs.Reader.{shortTest, fieldTest, framesOf, stopOf, headerTest, opened, told, Told}
 use Rattle.file.proofs.Bits.{field-lt}
 use Rattle.file.proofs.Steps.{short-fine, short-refused, field-fine, field-refused, field-short, field-there, field-legal}
 
@@ -27,14 +27,9 @@ pub opened-refused : {v : Verdict} {r : Refusal} (n k : ℕ) → v ≡ Verdict.R
 unfolding opened
 opened-refused n k e = sym (ap (λ (v : Verdict). opened v n k) e)
 
--- an answer tells what its tests tell
-pub tells : (v : Verdict) (n k : ℕ) → told (opened v n k) ≡ tellOf v n k
-unfolding opened told tellOf
-tells Verdict.Fine n k = refl
-tells (Verdict.Refused r) n k = refl
-
-pub answered : {r : Opened} (v : Verdict) (n k : ℕ) → r ≡ opened v n k → (r ≡ opened v n k) × (told r ≡ tellOf v n k)
-answered v n k e = (e, ap told e ∙ tells v n k)
+-- the same answer, the same numbers
+pub answered : {a b : Opened} → a ≡ b → (a ≡ b) × (told a ≡ told b)
+answered e = (e, ap told e)
 
 -- the paper's numbers tell the answers apart, where an index has frames and a refusal a number
 pub told-apart : (a b : Opened) → told a ≡ told b → 0 < told a .number + told a .frames → a ≡ b

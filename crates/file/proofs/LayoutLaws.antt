@@ -1,16 +1,19 @@
 -- The field lists of the layout: how many bits they take, when every value fits its width, and that the same index has the
--- same file.
+-- same file; and the lengths of the rooms.
 use Prim.Native.Nat.{ℕ, zero, suc, _+_, _*_, _<_}
 use mathlib.Core.Path.{_≡_, refl, sym, ap, ap₂, _∙_}
+use mathlib.Core.Bool.{true}
 use mathlib.Core.List.{List, [], _∷_, _++_}
 use native.Mathlib.Omega.{arith}
+use borrow.Author.Tests.{eq-eqb, eqb-true}
 use lib.ListN.{length, getD, drop, drop-of-length-le}
 use lib.Seq.{drop-cons}
 use Rattle.basics.specs.Places.{sum}
+use Rattle.basics.proofs.Laws.{both, both-true}
 use Rattle.rows.specs.Entry.{rankOf, joinsOf}
 use Rattle.rows.specs.Rooms.{rowAt}
 use Rattle.file.specs.Bits.{Field, field, bitLen, packed, Legal}
-use Rattle.file.specs.Layout.{headerFields, orderFields, entryFields, rowFields, rowsFields, fileFields, fileOf, Stored, Same}
+use Rattle.file.specs.Layout.{headerFields, orderFields, entryFields, rowFields, rowsFields, fileFields, fileOf, lengthsFit, Stored, Same}
 use Rattle.file.proofs.Bits.{bitLen-append}
 use Rattle.file.proofs.Packed.{legal-append}
 
@@ -93,3 +96,17 @@ same-file a b s =
     ap (λ (fs : List Field). packed (headerFields n (a .stop) ++ (orderFields (a .order) ++ fs))) rows
     ∙ ap₂ (λ (m k : ℕ). packed (headerFields m k ++ (orderFields (a .order) ++ rowsFields (b .width) (b .labels) (a .counts) 0 m))) (s .frames) (s .stop)
     ∙ ap₂ (λ (O counts : List ℕ). packed (headerFields (b .frames) (b .stop) ++ (orderFields O ++ rowsFields (b .width) (b .labels) counts 0 (b .frames)))) (s .order) (s .counts)
+
+-- ---- lengths
+
+module _ (n w order labels counts : ℕ) where
+  pub lengths-fit : order ≡ n → labels ≡ n * w → counts ≡ n → lengthsFit n w order labels counts ≡ true
+  unfolding lengthsFit
+  lengths-fit a b c = both _ _ (both _ _ (eq-eqb order n a) (eq-eqb labels (n * w) b)) (eq-eqb counts n c)
+
+  pub fit-lengths : lengthsFit n w order labels counts ≡ true → (order ≡ n) × (labels ≡ n * w) × (counts ≡ n)
+  unfolding lengthsFit
+  fit-lengths e =
+      let (front, c) = both-true _ _ e in
+      let (a, b) = both-true _ _ front in
+      (eqb-true _ _ a, eqb-true _ _ b, eqb-true _ _ c)

@@ -5,7 +5,7 @@ use mathlib.Core.Bool.{true, false}
 use mathlib.Core.List.{List}
 use native.Mathlib.Omega.{arith}
 use lib.ListN.{length}
-use borrow.Author.Tests.{le-leb, lt-leb, eq-eqb, ne-eqb, leb-true, eqb-true}
+use borrow.Author.Tests.{le-leb, lt-leb, leb-true}
 use Rattle.basics.specs.Places.{table}
 use Rattle.basics.proofs.Laws.{both, both-true}
 use Rattle.refusal.specs.Numbers.{SIZE, LENGTH}
@@ -14,14 +14,16 @@ use Rattle.refusal.specs.declared.Refusal.{Refusal}
 use Rattle.refusal.specs.declared.Verdict.{Verdict}
 use Rattle.refusal.proofs.Laws.{test-fine, test-refused, test-held, then-fine, after-fine, after-refused}
 use Rattle.file.specs.declared.Opened.{Opened}
-use Rattle.file.specs.Reader.{framesOf, stopOf, headerTest, frameAt, orderFrom, rowsOf, endTest, bodyTest, widthFits, lengthsFit, readTest, rowBit, countAt, labelAt, orderRead, labelsRead, countsRead, outcome, filledIn, readOf}
+use Rattle.file.specs.Layout.{lengthsFit}
+use Rattle.file.specs.Reader.{framesOf, stopOf, headerTest, frameAt, orderFrom, rowsOf, endTest, bodyTest, widthFits, readTest, rowBit, countAt, labelAt, orderRead, labelsRead, countsRead, outcome, filledIn, readOf}
 use Rattle.file.specs.Stores.{filled, Ordered, Rowed}
 use Rattle.file.proofs.Fields.{row-fits}
 use Rattle.file.proofs.Heading.{Headed, headed, frames-most}
+use Rattle.file.proofs.LayoutLaws.{fit-lengths}
 use Rattle.file.proofs.Inversion.{rows-fine, rows-behind, bits-there}
 use Rattle.file.proofs.Stores.{filled-table}
 
--- ---- width and lengths
+-- ---- the width
 
 pub no-width : (w : ℕ) → w < 1 → widthFits w ≡ false
 unfolding widthFits
@@ -34,30 +36,6 @@ too-wide w h = rw (le-leb 1 w (omega arith), lt-leb w 256 h)
 pub width-fits : (w : ℕ) → 1 ≤ w → w ≤ 256 → widthFits w ≡ true
 unfolding widthFits
 width-fits w h g = both _ _ (le-leb 1 w h) (le-leb w 256 g)
-
-module _ (n w order labels counts : ℕ) where
-  pub order-unfit : (order ≡ n → ⊥) → lengthsFit n w order labels counts ≡ false
-  unfolding lengthsFit
-  order-unfit h = rw (ne-eqb order n h)
-
-  pub labels-unfit : order ≡ n → (labels ≡ n * w → ⊥) → lengthsFit n w order labels counts ≡ false
-  unfolding lengthsFit
-  labels-unfit a h = rw (eq-eqb order n a, ne-eqb labels (n * w) h)
-
-  pub counts-unfit : order ≡ n → labels ≡ n * w → (counts ≡ n → ⊥) → lengthsFit n w order labels counts ≡ false
-  unfolding lengthsFit
-  counts-unfit a b h = rw (eq-eqb order n a, eq-eqb labels (n * w) b, ne-eqb counts n h)
-
-  pub lengths-fit : order ≡ n → labels ≡ n * w → counts ≡ n → lengthsFit n w order labels counts ≡ true
-  unfolding lengthsFit
-  lengths-fit a b c = both _ _ (both _ _ (eq-eqb order n a) (eq-eqb labels (n * w) b)) (eq-eqb counts n c)
-
-  pub fit-lengths : lengthsFit n w order labels counts ≡ true → (order ≡ n) × (labels ≡ n * w) × (counts ≡ n)
-  unfolding lengthsFit
-  fit-lengths e =
-      let (front, c) = both-true _ _ e in
-      let (a, b) = both-true _ _ front in
-      (eqb-true _ _ a, eqb-true _ _ b, eqb-true _ _ c)
 
 -- ---- the tests in their order
 

@@ -23,7 +23,7 @@ use Rattle.rows.specs.Rooms.{part, rowAt}
 use Rattle.rows.proofs.Laws.{Sound, entry-of-parts, getD-part, length-part, row-inside}
 use Rattle.file.specs.Bits.{fieldAt, bitLen, byteLen}
 use Rattle.file.specs.Layout.{fileFields, fileOf, stored, Same}
-use Rattle.file.specs.Reader.{shortTest, headerTest, framesOf, stopOf, frameAt, orderFrom, entriesFrom, rowTest, behind, whole, goOn, rowsFrom, rowsOf, bodyTest, widthFits, lengthsFit, readTest, rowBit, countAt, entryAt, labelAt, orderRead, labelsRead, countsRead, Outcome, outcome, filledIn, readOf}
+use Rattle.file.specs.Reader.{shortTest, headerTest, framesOf, stopOf, frameAt, orderFrom, entriesFrom, rowTest, behind, whole, goOn, rowsFrom, rowsOf, bodyTest, readTest, rowBit, countAt, entryAt, labelAt, orderRead, labelsRead, countsRead, Outcome, outcome, filledIn, readOf}
 use Rattle.file.specs.Writer.{wrote, writeOf}
 use Rattle.file.specs.declared.Opened.{Opened}
 use Rattle.file.specs.declared.Whole.{Whole}
@@ -32,6 +32,8 @@ use Rattle.file.proofs.Fields.{order-legal, entry-legal, row-entries, e
 use Rattle.file.proofs.Fit.{fit-order, fit-count, fit-row, fit-length}
 use Rattle.file.proofs.ReadBack.{Holds, file-holds, version-found, frames-found, stop-found, spare-found, frame-found, count-field, count-found, entry-found, row-end, last-end, order-fits}
 use Rattle.file.proofs.Steps.{short-fine, field-fine}
+use Rattle.file.proofs.LayoutLaws.{lengths-fit}
+use Rattle.file.proofs.Reader.{width-fits, body-left}
 use Rattle.file.proofs.Writing.{Done, write-done, done-file}
 
 more-bytes : (a b : ℕ) → a ≤ b → byteLen a ≤ byteLen b
@@ -123,14 +125,9 @@ module _ {s : List ℕ} {n k w : ℕ} {O labels counts : List ℕ} (h : Holds s 
         ∙ end-fine s (bitLen (fileFields n k w O labels counts)) (h .fill) (le-of-eq (h .long))
 
     pub read-fine : 1 ≤ x → x ≤ 256 → readTest s x n (n * x) n ≡ Verdict.Fine
-    unfolding readTest widthFits lengthsFit
     read-fine a b =
-        let frames : framesOf s ≡ n = frames-found h in
-        let places : n * x ≡ framesOf s * x = ap (λ (m : ℕ). m * x) (sym frames) in
-        after-fine _ (test-fine SIZE 0 (both _ _ (le-leb 1 x a) (le-leb x 256 b)))
-        ∙ after-fine _ header-fine
-        ∙ after-fine _ (test-fine LENGTH 0 (both _ _ (both _ _ (eq-eqb _ _ (sym frames)) (eq-eqb _ _ places)) (eq-eqb _ _ (sym frames))))
-        ∙ ap₂ (λ (m j : ℕ). bodyTest s m j x) frames (stop-found h)
+        body-left s x n (n * x) n (width-fits x a b) header-fine (sym (frames-found h)) (sym (stop-found h))
+        (lengths-fit n x n (n * x) n refl refl refl)
         ∙ body-fine
 
     -- ---- what the rooms then hold

@@ -1,7 +1,6 @@
 -- The writer's outcome by cases: refused by a test on the index, refused for want of room, written.
 use Prim.Native.Nat.{ℕ, _+_, _-_, _≤_, _<_}
 use mathlib.Core.Path.{_≡_, refl, sym, ap, ap₂, _∙_}
-use mathlib.Core.Bool.{Bool, true, false}
 use mathlib.Core.List.{List, _++_}
 use native.Mathlib.Omega.{arith}
 use borrow.Author.Tests.{le-leb, lt-leb, leb-true}
@@ -9,11 +8,11 @@ use lib.ListN.{length, take, drop}
 use lib.Seq.{drop-drop, take-at, drop-at, length-take-le}
 use Rattle.basics.proofs.Laws.{both, both-true}
 use Rattle.refusal.specs.Numbers.{OUT}
-use Rattle.refusal.specs.Tests.{test, _then_, refusal, numberOf, placeOf}
+use Rattle.refusal.specs.Tests.{_then_, refusal, numberOf, placeOf}
 use Rattle.refusal.specs.declared.Refusal.{Refusal}
 use Rattle.refusal.specs.declared.Verdict.{Verdict}
 use Rattle.refusal.specs.declared.Verdict.the-variants.{Fine, Refused}
-use Rattle.refusal.proofs.Laws.{test-fine, test-refused, test-held, fine-not-refused, then-fine, after-fine, after-refused, vcase, told}
+use Rattle.refusal.proofs.Laws.{Numbered, test-fine, test-refused, test-held, then-fine, after-fine, after-refused, test-numbered, then-numbered, vcase, told}
 use Rattle.links.specs.Order.{orderTest}
 use Rattle.rows.specs.Rooms.{rowsTest}
 use Rattle.file.specs.Bits.{bitLen, byteLen}
@@ -66,22 +65,6 @@ put-back out file start m e =
     ap (λ (r : List ℕ). take start out ++ (file ++ r)) (drop-drop m start out ∙ ap (λ (i : ℕ). drop (start + i) out) e)
 
 -- ---- what an answer tells
-
--- a refusal of the tests has a number
-abbrev Numbered : Verdict → Type 0
-Numbered v = (r : Refusal) → v ≡ Refused r → 0 < r .number
-
-test-numbered : (b : Bool) (number place : ℕ) → 0 < number → Numbered (test b number place)
-unfolding test numberOf
-test-numbered true number place h r e = fine-not-refused e
-test-numbered false number place h r e =
-    let same : number ≡ r .number = ap numberOf e in
-    omega arith
-
-then-numbered : (v next : Verdict) → Numbered v → Numbered next → Numbered (v then next)
-unfolding _then_
-then-numbered Fine next a b r e = b r e
-then-numbered (Refused s) next a b r e = a r e
 
 module _ (n k w : ℕ) (O labels counts out : List ℕ) (start : ℕ) where
   write-numbered : Numbered (writeTests n k w O labels counts then outTest (length out) start (length (fileOf n k w O labels counts)))

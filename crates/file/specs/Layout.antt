@@ -1,9 +1,11 @@
 -- The field list of the index file: the one place that says which fields it has, in which order and how wide. n frames,
 -- stop k, width w, order O, label room and count room.
-use Prim.Native.Nat.{ℕ, zero, suc, _-_, _<_}
+use Prim.Native.Nat.{ℕ, zero, suc, _-_, _*_, _<_}
 use mathlib.Core.Path.{_≡_}
+use mathlib.Core.Bool.{Bool, _&&_}
 use mathlib.Core.List.{List, [], _∷_, _++_}
 use lib.ListN.{getD}
+use lib.Dec.{eqb}
 use Rattle.rows.specs.Entry.{rankOf, joinsOf}
 use Rattle.rows.specs.Rooms.{rowAt}
 use Rattle.file.specs.Bits.{Field, field, packed}
@@ -38,6 +40,10 @@ fileFields n k w O labels counts = headerFields n k ++ (orderFields O ++ rowsFie
 -- the file's bytes
 unfoldable pub fileOf : ℕ → ℕ → ℕ → List ℕ → List ℕ → List ℕ → List ℕ
 fileOf n k w O labels counts = packed (fileFields n k w O labels counts)
+
+-- the lengths of an index's rooms: the order n, the labels n * W, the counts n
+unfoldable pub lengthsFit : ℕ → ℕ → ℕ → ℕ → ℕ → Bool
+lengthsFit n w order labels counts = eqb order n && eqb labels (n * w) && eqb counts n
 
 -- an index as it lies in the rooms
 pub record Stored : Type 0 where

@@ -34,12 +34,7 @@ pub record Closed (o : List ℕ) (p : Pen) (o1 : List ℕ) : Type 0 where
   pub long : length o1 ≡ length o
   pub whole : val (take (byteLen (penBits p)) o1) ≡ penNum o p * 2 ^ padLen (penBits p)
 
--- row v lies in the label room
-pub record RowIn (w : ℕ) (labels counts : List ℕ) (v : ℕ) : Type 0 where
-  pub frame : v < length counts
-  pub inside : v * w + getD counts v 0 ≤ length labels
-
--- so does every row
-pub record RowsIn (n w : ℕ) (labels counts : List ℕ) : Type 0 where
-  pub frames : length counts ≡ n
-  pub inside : (v : ℕ) → v < n → v * w + getD counts v 0 ≤ length labels
+-- row v lies in the label room, whatever its entries are
+pub record RowLies (w : ℕ) (labels counts : List ℕ) (v : ℕ) : Type 0 where
+  pub counted : v < length counts
+  pub lies : v * w + getD counts v 0 ≤ length labels

@@ -14,6 +14,7 @@ use Rattle.rows.specs.Entry.{entryOf}
 use Rattle.file.specs.declared.Opened.{Opened}
 use Rattle.file.specs.declared.Whole.{Whole}
 use Rattle.file.specs.Bits.{fieldAt, byteLen, padLen}
+use Rattle.file.specs.Layout.{lengthsFit}
 
 -- ---- one field
 
@@ -124,10 +125,6 @@ bodyTest s n k w =
 unfoldable pub widthFits : ℕ → Bool
 widthFits w = leb 1 w && leb w 256
 
--- the label room has n * W places, the count room and the order room n
-unfoldable pub lengthsFit : ℕ → ℕ → ℕ → ℕ → ℕ → Bool
-lengthsFit n w order labels counts = eqb order n && eqb labels (n * w) && eqb counts n
-
 -- 1 for W, the header's fields in bit order, 2, then the other fields in bit order, then 13
 unfoldable pub readTest : List ℕ → ℕ → ℕ → ℕ → ℕ → Verdict
 readTest s w order labels counts =
@@ -215,8 +212,3 @@ tell number place frames stop = record { number = number; place = place; frames 
 unfoldable pub told : Opened → Told
 told (Opened.Index n k) = tell 0 0 n k
 told (Opened.Refused r) = tell (r .number) (r .place) 0 0
-
--- the same of tests and of what they let through
-unfoldable pub tellOf : Verdict → ℕ → ℕ → Told
-tellOf Verdict.Fine n k = tell 0 0 n k
-tellOf (Verdict.Refused r) n k = tell (r .number) (r .place) 0 0

@@ -5,28 +5,24 @@ use mathlib.Core.Path.{_≡_}
 use mathlib.Core.Bool.{Bool, _&&_}
 use mathlib.Core.List.{List, _++_}
 use lib.ListN.{length, take, drop}
-use lib.Dec.{leb, eqb}
+use lib.Dec.{leb}
 use Rattle.refusal.specs.Numbers.{SIZE, LENGTH, OUT}
 use Rattle.refusal.specs.Tests.{test, _then_}
 use Rattle.refusal.specs.declared.Verdict.{Verdict}
 use Rattle.links.specs.Order.{orderTest}
-use Rattle.rows.specs.Rooms.{Rooms, sizesFit, roomsFit, rowsTest}
+use Rattle.rows.specs.Rooms.{Rooms, sizesFit, rowsTest}
 use Rattle.file.specs.declared.Written.{Written}
-use Rattle.file.specs.Layout.{fileOf}
+use Rattle.file.specs.Layout.{lengthsFit, fileOf}
 
 -- n from 1 to 4,096, W from 1 to 256, k from 0 to n
 unfoldable pub indexSizes : ℕ → ℕ → ℕ → Bool
 indexSizes n k w = sizesFit n w && leb k n
 
--- the order has n places, the label room n * W, the count room n
-unfoldable pub indexLengths : ℕ → ℕ → List ℕ → List ℕ → List ℕ → Bool
-indexLengths n w O labels counts = eqb (length O) n && roomsFit n w labels counts
-
 -- 1, 2, 5, and 9 with the bound k
 unfoldable pub writeTests : ℕ → ℕ → ℕ → List ℕ → List ℕ → List ℕ → Verdict
 writeTests n k w O labels counts =
     test (indexSizes n k w) SIZE 0
-    then test (indexLengths n w O labels counts) LENGTH 0
+    then test (lengthsFit n w (length O) (length labels) (length counts)) LENGTH 0
     then orderTest n O
     then rowsTest k n w labels counts
 

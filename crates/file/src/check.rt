@@ -3,7 +3,9 @@ use crate::Opened;
 use crate::Whole;
 use crate::get;
 use crate::get::Step;
+use crate::rooms;
 use crate::widths;
+use refusal;
 use refusal::Verdict;
 ghost use Prim.Native.Nat.{_+_, _*_, _≤_, _<_};
 ghost use mathlib.Core.Path.{_≡_};
@@ -177,10 +179,10 @@ pub fn end(bytes: &[u8], p: usize) -> Verdict
     let used = (p + 7) / 8;
     let fill = get::get(bytes, p, 8 * used - p);
     if fill != 0 {
-        return get::refused(refusal::FIELD, p);
+        return refusal::refused(refusal::FIELD, p);
     }
     if used < bytes.len() {
-        return get::refused(refusal::LONG, used);
+        return refusal::refused(refusal::LONG, used);
     }
     Verdict::Fine
 }
@@ -217,14 +219,8 @@ pub fn file(bytes: &[u8], w: usize, order: usize, labels: usize, counts: usize) 
     let Opened::Index(n, k) = headed else {
         return headed;
     };
-    if order != n {
-        return get::closed(refusal::LENGTH, 0);
-    }
-    let places = n * w;
-    if labels != places {
-        return get::closed(refusal::LENGTH, 0);
-    }
-    if counts != n {
+    let lengths = rooms::lengths_fit(n, w, order, labels, counts);
+    if !lengths {
         return get::closed(refusal::LENGTH, 0);
     }
     let tested = body(bytes, n, k, w);

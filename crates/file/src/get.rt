@@ -25,13 +25,6 @@ pub fn stop(number: u32, place: usize) -> Step
     Step::Refused(Refusal { number, place })
 }
 
-// The same as a verdict.
-pub fn refused(number: u32, place: usize) -> Verdict
-    ensures { λ r. ⌜ r ≡ Verdict.Refused (refusal number place) ⌝ }
-{
-    Verdict::Refused(Refusal { number, place })
-}
-
 // The same as an answer.
 pub fn closed(number: u32, place: usize) -> Opened
     ensures { λ r. ⌜ r ≡ Opened.Refused (refusal number place) ⌝ }

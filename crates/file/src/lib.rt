@@ -1,5 +1,6 @@
 // The index file: bit-packed fields, most significant first.
 mod put;
+mod rooms;
 mod widths;
 mod writer;
 
@@ -9,8 +10,7 @@ use refusal;
 use refusal::Refusal;
 use refusal::Verdict;
 use rows::entry::Entry;
-ghost use lib.ListN.{length};
-ghost use Rattle.file.specs.Reader.{framesOf, stopOf, headerTest, headerOf, readTest, outcome, readOf, told, tellOf};
+ghost use Rattle.file.specs.Reader.{headerOf, outcome, readOf, told};
 
 mod check;
 mod get;
@@ -77,7 +77,7 @@ pub fn write(
 // The header alone: n and k, or the very refusal that the reader gives.
 pub fn header(bytes: &[u8]) -> Opened
     ensures given { λ r. ⌜ r ≡ headerOf (now (bytes .entry)) ⌝ }
-    ensures said { λ r. ⌜ told r ≡ tellOf (headerTest (now (bytes .entry))) (framesOf (now (bytes .entry))) (stopOf (now (bytes .entry))) ⌝ }
+    ensures said { λ r. ⌜ told r ≡ told (headerOf (now (bytes .entry))) ⌝ }
 {
     if bytes.len() < 1 {
         return get::closed(refusal::SHORT, 0);
@@ -114,7 +114,7 @@ pub fn read(
     counts: &mut [u32],
 ) -> Opened
     ensures given { λ r. ⌜ outcome r (now (order .exit)) (now (labels .exit)) (now (counts .exit)) ≡ readOf (now (bytes .entry)) w (now (order .entry)) (now (labels .entry)) (now (counts .entry)) ⌝ }
-    ensures said { λ r. ⌜ told r ≡ tellOf (readTest (now (bytes .entry)) w (length (now (order .entry))) (length (now (labels .entry))) (length (now (counts .entry)))) (framesOf (now (bytes .entry))) (stopOf (now (bytes .entry))) ⌝ }
+    ensures said { λ r. ⌜ told r ≡ told (readOf (now (bytes .entry)) w (now (order .entry)) (now (labels .entry)) (now (counts .entry)) .answer) ⌝ }
 {
     let opened = check::file(bytes, w, order.len(), labels.len(), counts.len());
     let Opened::Index(n, k) = opened else {

@@ -4,10 +4,10 @@ use crate::widths;
 use rows::entry;
 use rows::entry::Entry;
 ghost use mathlib.Core.List.{[], _∷_};
-ghost use Prim.Native.Nat.{_+_, _-_, _*_, _≤_, _<_};
+ghost use Prim.Native.Nat.{ℕ, _+_, _-_, _*_, _≤_, _<_};
 ghost use Rattle.file.specs.Bits.{field};
 ghost use Rattle.file.specs.Layout.{headerFields, orderFields, entryFields, rowFields, rowsFields};
-ghost use Rattle.file.specs.Pen.{Ready, Put, RowIn, RowsIn, Closed};
+ghost use Rattle.file.specs.Pen.{Ready, Put, RowLies, Closed};
 
 // A pen: `at` bytes are finished, and `nb` bits, below eight, of value `acc` are not yet a byte.
 pub struct Pen {
@@ -112,7 +112,7 @@ pub fn put_row(
     counts: &[u32],
     v: usize,
 ) -> Pen
-    requires { ⌜ Ready (now out) pen (rowFields w (now labels) (now counts) v) × RowIn w (now labels) (now counts) v ⌝ }
+    requires { ⌜ Ready (now out) pen (rowFields w (now labels) (now counts) v) × RowLies w (now labels) (now counts) v ⌝ }
     ensures { λ r. ⌜ Put (now (out .entry)) pen (rowFields w (now (labels .entry)) (now (counts .entry)) v) (now (out .exit)) r ⌝ }
 {
     let count = counts[v] as usize;
@@ -131,7 +131,7 @@ pub fn put_rows(
     labels: &[Entry],
     counts: &[u32],
 ) -> Pen
-    requires { ⌜ Ready (now out) pen (rowsFields w (now labels) (now counts) 0 n) × RowsIn n w (now labels) (now counts) ⌝ }
+    requires { ⌜ Ready (now out) pen (rowsFields w (now labels) (now counts) 0 n) × ((v : ℕ) → v < n → RowLies w (now labels) (now counts) v) ⌝ }
     ensures { λ r. ⌜ Put (now (out .entry)) pen (rowsFields w (now (labels .entry)) (now (counts .entry)) 0 n) (now (out .exit)) r ⌝ }
 {
     let mut tip = pen;

@@ -5,48 +5,27 @@ ghost use Prim.Native.Nat.{_+_, _*_, _/_, _≤_};
 ghost use lib.ListN.{length};
 ghost use Rattle.basics.specs.Places.{sum};
 ghost use Rattle.file.specs.Layout.{fileOf};
-ghost use Rattle.file.specs.Writer.{indexSizes, indexLengths, writeTests, Fit};
+ghost use Rattle.file.specs.Writer.{indexSizes, writeTests, Fit};
 use crate::put;
 use crate::put::Pen;
+use crate::rooms;
 use crate::widths;
 use links;
 use refusal;
-use refusal::Refusal;
 use refusal::Verdict;
 use rows::check;
 use rows::entry::Entry;
+use rows::rooms::total;
 
 // Whether n, W and k are in range.
 pub fn sizes_fit(n: usize, w: usize, k: usize) -> bool
     ensures { λ r. ⌜ r ≡ indexSizes n k w ⌝ }
 {
-    if n < 1 {
-        return false;
-    }
-    if 4096 < n {
-        return false;
-    }
-    if w < 1 {
-        return false;
-    }
-    if 256 < w {
+    let sizes = rows::rooms::sizes_fit(n, w);
+    if !sizes {
         return false;
     }
     k <= n
-}
-
-// Whether the rooms have their lengths.
-pub fn lengths_fit(n: usize, w: usize, order: &[u32], labels: &[Entry], counts: &[u32]) -> bool
-    requires { ⌜ (n ≤ 4096) × (w ≤ 256) ⌝ }
-    ensures { λ r. ⌜ r ≡ indexLengths n w (now (order .entry)) (now (labels .entry)) (now (counts .entry)) ⌝ }
-{
-    if order.len() != n {
-        return false;
-    }
-    if labels.len() != n * w {
-        return false;
-    }
-    counts.len() == n
 }
 
 // The tests on the index: 1, 2, 5, and 9 with the bound k.
@@ -62,38 +41,17 @@ pub fn tests(
 {
     let sizes = sizes_fit(n, w, k);
     if !sizes {
-        return Verdict::Refused(Refusal {
-            number: refusal::SIZE,
-            place: 0,
-        });
+        return refusal::refused(refusal::SIZE, 0);
     }
-    let lengths = lengths_fit(n, w, order, labels, counts);
+    let lengths = rooms::lengths_fit(n, w, order.len(), labels.len(), counts.len());
     if !lengths {
-        return Verdict::Refused(Refusal {
-            number: refusal::LENGTH,
-            place: 0,
-        });
+        return refusal::refused(refusal::LENGTH, 0);
     }
     let once = links::check_order(n, order);
     let Verdict::Fine = once else {
         return once;
     };
     check::check_rows(k, n, w, labels, counts)
-}
-
-// The sum of all counts.
-pub fn total(counts: &[u32]) -> usize
-    requires { ⌜ length (now counts) ≤ 4096 ⌝ }
-    ensures { λ r. ⌜ (r ≡ sum (now (counts .entry))) × (r ≤ 4096 * 4294967296) ⌝ }
-{
-    let mut entries: usize = 0;
-    let mut v = 0;
-    while v < counts.len() {
-        let count = counts[v] as usize;
-        entries += count;
-        v += 1;
-    }
-    entries
 }
 
 // The bytes that the file has: 4 for the header, and 21 bits for each frame and 24 for each entry, rounded up.

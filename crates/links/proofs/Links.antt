@@ -1,5 +1,5 @@
--- The tests on a block of links: that sizes and lengths tested first leave tests 3 and 4, and that these passed give
--- exactly what the theory asks of a block.
+-- The tests on a block of links: that sizes and lengths tested first leave tests 3 and 4, that these passed give what the
+-- theory asks of a block, and that such a block passes.
 use Prim.Native.Nat.{ℕ, zero, suc, _+_, _-_, _≤_, _<_}
 use mathlib.Core.Path.{_≡_, refl, sym, ap, _∙_}
 use mathlib.Core.Bool.{Bool, true, false, not, _||_, _&&_, and-false, or-true}
@@ -9,17 +9,17 @@ use native.Mathlib.Numerals.{add-one}
 use native.Mathlib.Decide.{ℕ-discrete}
 use lib.ListN.{length, getD}
 use lib.Dec.{leb, ltb, eqb}
-use borrow.Author.Tests.{le-leb, lt-leb, lt-ltb, eq-eqb, ne-eqb, leb-false, ltb-false, eqb-true, eqb-false}
+use borrow.Author.Tests.{le-leb, lt-leb, lt-ltb, le-ltb, eq-eqb, ne-eqb, leb-true, leb-false, ltb-false, eqb-true, eqb-false}
 use Rattle.basics.specs.Places.{first, some}
-use Rattle.basics.proofs.Laws.{by-cases, both, both-true, either-false, either-left, either-right, neither, not-of-true, not-of-false, of-not-true, of-not-false, first-before, some-one, some-found, some-not, some-first, none-first}
+use Rattle.basics.proofs.Laws.{by-cases, lt-or-ge, both, both-true, either-false, either-right, neither, not-of-true, not-of-false, of-not-true, of-not-false, cond-true, cond-false, first-before, first-none, some-none, some-one, some-found, some-not, some-first, none-first}
 use Rattle.refusal.specs.Numbers.{SIZE, LENGTH, STARTS, LINKS}
-use Rattle.refusal.specs.Tests.{_then_, refusal}
+use Rattle.refusal.specs.Tests.{test, _then_, refusal}
 use Rattle.refusal.specs.declared.Verdict.the-variants.{Fine, Refused}
-use Rattle.refusal.proofs.Laws.{test-fine, test-refused, test-held, after-fine, after-refused}
+use Rattle.refusal.proofs.Laws.{test-fine, test-refused, test-held, after-fine, after-refused, then-fine, then-assoc}
 use Rattle.theory.specs.Links.{Block, Link}
 use Rattle.theory.specs.Plain.{ones}
-use Rattle.links.specs.Links.{framesFit, placesFit, falls, startsRight, degree, holds, notAbove, faultyLink, faultyList, startsTest, listsTest, checkLinks}
-use Rattle.links.specs.Inner.{Starts, ListIn}
+use Rattle.links.specs.Links.{framesFit, placesFit, falls, startsRight, degree, holds, faultyLink, faultyList, startsTest, listsTest, checkLinks}
+use Rattle.links.specs.Inner.{sizesTest, Fits, Starts, ListIn, floorOf, faultyFrom}
 
 -- ---- sizes and lengths
 
@@ -27,54 +27,53 @@ pub frames-fit : (n : ℕ) → 1 ≤ n → n ≤ 4096 → framesFit n ≡ true
 unfolding framesFit
 frames-fit n one most = both _ _ (le-leb 1 n one) (le-leb n 4096 most)
 
-pub no-frames : (n : ℕ) → n < 1 → framesFit n ≡ false
+pub frames-held : (n : ℕ) → framesFit n ≡ true → (1 ≤ n) × (n ≤ 4096)
 unfolding framesFit
-no-frames n few = rw (lt-leb 1 n few) refl
+frames-held n e =
+    let (one, most) = both-true (leb 1 n) (leb n 4096) e in
+    (leb-true _ _ one, leb-true _ _ most)
 
-pub many-frames : (n : ℕ) → 4096 < n → framesFit n ≡ false
-unfolding framesFit
-many-frames n many = rw (le-leb 1 n (omega arith), lt-leb n 4096 many) refl
+-- sizes that fit leave the length, and others are refused
+pub sizes-in : (n : ℕ) (S L : List ℕ) → framesFit n && placesFit (length L) ≡ true
+    → sizesTest n S L ≡ test (eqb (length S) (n + 1)) LENGTH 0
+unfolding sizesTest
+sizes-in n S L e = after-fine _ (test-fine _ _ e)
 
-pub places-fit : (l : ℕ) → l ≤ 65536 → placesFit l ≡ true
+pub sizes-out : (n : ℕ) (S L : List ℕ) → framesFit n && placesFit (length L) ≡ false → sizesTest n S L ≡ Refused (refusal SIZE 0)
+unfolding sizesTest
+sizes-out n S L e = after-refused _ (test-refused _ _ e)
+
+-- sizes and lengths that fit pass tests 1 and 2, and no others do
+pub sizes-pass : (n : ℕ) (S L : List ℕ) → Fits n S L → sizesTest n S L ≡ Fine
 unfolding placesFit
-places-fit l most = le-leb l 65536 most
+sizes-pass n S L f =
+    sizes-in n S L (both _ _ (frames-fit n (f .one) (f .frames)) (le-leb (length L) 65536 (f .places)))
+    ∙ test-fine _ _ (eq-eqb (length S) (n + 1) (f .long))
 
-pub many-places : (l : ℕ) → 65536 < l → placesFit l ≡ false
-unfolding placesFit
-many-places l many = lt-leb l 65536 many
+pub sizes-held : (n : ℕ) (S L : List ℕ) → sizesTest n S L ≡ Fine → Fits n S L
+unfolding sizesTest placesFit
+sizes-held n S L fine =
+    let (sizes, long) = then-fine _ _ fine in
+    let (frames, places) = both-true (framesFit n) (placesFit (length L)) (test-held _ _ _ sizes) in
+    let (one, most) = frames-held n frames in
+    record {
+      one = one;
+      frames = most;
+      places = leb-true _ _ places;
+      long = eqb-true _ _ (test-held _ _ _ long);
+    }
 
--- the SIZE test of n and the neighbour places
-pub size-few : (n l : ℕ) → n < 1 → framesFit n && placesFit l ≡ false
-size-few n l few = rw (no-frames n few) refl
-
-pub size-many : (n l : ℕ) → 4096 < n → framesFit n && placesFit l ≡ false
-size-many n l many = rw (many-frames n many) refl
-
-pub size-places : (n l : ℕ) → 65536 < l → framesFit n && placesFit l ≡ false
-size-places n l many = rw (many-places l many, and-false) refl
-
-pub size-fits : (n l : ℕ) → 1 ≤ n → n ≤ 4096 → l ≤ 65536 → framesFit n && placesFit l ≡ true
-size-fits n l one most room = both _ _ (frames-fit n one most) (places-fit l room)
-
-pub links-size : (n : ℕ) (S L : List ℕ) → framesFit n && placesFit (length L) ≡ false
-    → checkLinks n S L ≡ Refused (refusal SIZE 0)
-unfolding checkLinks
-links-size n S L e = after-refused _ (test-refused _ _ e)
-
-pub links-length : (n : ℕ) (S L : List ℕ) → 1 ≤ n → n ≤ 4096 → length L ≤ 65536 → (length S ≡ n + 1 → ⊥)
-    → checkLinks n S L ≡ Refused (refusal LENGTH 0)
-unfolding checkLinks
-links-length n S L one most room other =
-    after-fine _ (test-fine _ _ (size-fits n (length L) one most room))
-    ∙ after-refused _ (test-refused _ _ (ne-eqb (length S) (n + 1) other))
+-- check links is tests 1 and 2, and then 3 and 4
+pub links-split : (n : ℕ) (S L : List ℕ) → checkLinks n S L ≡ (sizesTest n S L then (startsTest n S L then listsTest n S L))
+unfolding checkLinks sizesTest
+links-split n S L = sym (then-assoc _ _ _)
 
 -- where sizes and lengths fit, check links is tests 3 and 4
 pub links-alone : (n : ℕ) (S L : List ℕ) → 1 ≤ n → n ≤ 4096 → length L ≤ 65536 → length S ≡ n + 1
     → checkLinks n S L ≡ (startsTest n S L then listsTest n S L)
-unfolding checkLinks
 links-alone n S L one most room long =
-    after-fine _ (test-fine _ _ (size-fits n (length L) one most room))
-    ∙ after-fine _ (test-fine _ _ (eq-eqb (length S) (n + 1) long))
+    links-split n S L
+    ∙ after-fine _ (sizes-pass n S L (record { one = one; frames = most; places = room; long = long }))
 
 -- ---- start positions
 
@@ -117,17 +116,16 @@ tests-fine n S L v e here whole =
 -- ---- start positions that are kept
 
 -- start positions that keep their rule, at sizes and lengths that fit
-pub starts-kept : (n : ℕ) (S L : List ℕ) → startsRight n S L ≡ true → n ≤ 4096 → length L ≤ 65536 → length S ≡ n + 1
-    → Starts n S L
+pub starts-kept : (n : ℕ) (S L : List ℕ) → startsRight n S L ≡ true → Fits n S L → Starts n S L
 unfolding startsRight
-starts-kept n S L right most room long =
+starts-kept n S L right fits =
     let (begin, last) =
     both-true (eqb (getD S 0 0) 0 && not (some (falls S) 0 n)) (eqb (getD S n 0) (length L)) right in
     let (front, rise) = both-true (eqb (getD S 0 0) 0) (not (some (falls S) 0 n)) begin in
     record {
-      frames = most;
-      places = room;
-      long = long;
+      frames = fits .frames;
+      places = fits .places;
+      long = fits .long;
       front = eqb-true _ _ front;
       rise = λ v h. ltb-false _ _ (some-not (falls S) 0 n v (of-not-true _ rise) (omega arith) (omega arith));
       last = eqb-true _ _ last;
@@ -152,6 +150,7 @@ list-in S s v h = record {
   frame = omega (arith, s .long);
   rise = s .rise v h;
   within = starts-within S s (v + 1) (omega arith);
+  few = omega (arith, s .frames);
   places = s .places;
 }
 
@@ -178,30 +177,52 @@ holds-not S L w v i rise e h = none-first (λ j. eqb (getD L j 0) v) (getD S w 0
 
 -- ---- a faulty link, and a sound one
 
-module _ (n : ℕ) (S L : List ℕ) (v i : ℕ) where
-  pub link-out : n ≤ getD L i 0 → faultyLink n S L v i ≡ true
-  unfolding faultyLink
-  link-out h = rw (le-leb n (getD L i 0) h) refl
+ltb-next : (a b : ℕ) → ltb a (b + 1) ≡ leb a b
+ltb-next a b =
+    lt-or-ge b a
+    (λ l. le-ltb a (b + 1) (omega arith) ∙ sym (lt-leb a b l))
+    (λ g. lt-ltb a (b + 1) (omega arith) ∙ sym (le-leb a b g))
 
-  pub link-self : getD L i 0 ≡ v → faultyLink n S L v i ≡ true
-  unfolding faultyLink
-  link-self e = rw (eq-eqb (getD L i 0) v e, or-true) refl
+module _ (n : ℕ) (S L : List ℕ) (v floor w : ℕ) where
+  pub link-out : n ≤ w → faultyFrom n S L v floor w ≡ true
+  unfolding faultyFrom
+  link-out h = rw (le-leb n w h) refl
 
-  pub link-falls : notAbove S L v i ≡ true → faultyLink n S L v i ≡ true
-  unfolding faultyLink
-  link-falls e = either-left _ _ (either-right (leb n (getD L i 0) || eqb (getD L i 0) v) _ e)
+  pub link-self : w ≡ v → faultyFrom n S L v floor w ≡ true
+  unfolding faultyFrom
+  link-self e = rw (eq-eqb w v e, or-true) refl
 
-  pub link-alone : holds S L (getD L i 0) v ≡ false → faultyLink n S L v i ≡ true
-  unfolding faultyLink
-  link-alone e = either-right (leb n (getD L i 0) || eqb (getD L i 0) v || notAbove S L v i) _ (not-of-false e)
+  pub link-low : w < floor → faultyFrom n S L v floor w ≡ true
+  unfolding faultyFrom
+  link-low h = rw (lt-ltb w floor h, or-true) refl
 
-  pub link-fine : getD L i 0 < n → (getD L i 0 ≡ v → ⊥) → notAbove S L v i ≡ false → holds S L (getD L i 0) v ≡ true
-      → faultyLink n S L v i ≡ false
-  unfolding faultyLink
+  pub link-alone : holds S L w v ≡ false → faultyFrom n S L v floor w ≡ true
+  unfolding faultyFrom
+  link-alone e = either-right (leb n w || eqb w v || ltb w floor) _ (not-of-false e)
+
+  pub link-fine : w < n → (w ≡ v → ⊥) → floor ≤ w → holds S L w v ≡ true → faultyFrom n S L v floor w ≡ false
+  unfolding faultyFrom
   link-fine inside apart above mirror =
-      neither _ _
-      (neither _ _ (neither _ _ (lt-leb n (getD L i 0) inside) (ne-eqb (getD L i 0) v apart)) above)
-      (not-of-true mirror)
+      neither _ _ (neither _ _ (neither _ _ (lt-leb n w inside) (ne-eqb w v apart)) (le-ltb w floor above)) (not-of-true mirror)
+
+-- the least number that may stand: at the front any, behind a link more than that
+pub floor-front : (S L : List ℕ) (v i : ℕ) → i ≤ getD S v 0 → floorOf S L v i ≡ 0
+unfolding floorOf
+floor-front S L v i h = cond-false _ _ (le-ltb (getD S v 0) i h)
+
+pub floor-behind : (S L : List ℕ) (v i : ℕ) → getD S v 0 ≤ i → floorOf S L v (i + 1) ≡ getD L i 0 + 1
+unfolding floorOf
+floor-behind S L v i h =
+    cond-true _ _ (lt-ltb (getD S v 0) (i + 1) (omega arith))
+    ∙ ap (λ (k : ℕ). getD L k 0 + 1) (let e : i + 1 - 1 ≡ i = omega arith in e)
+
+-- a faulty link by the floor at its place
+pub link-from : (n : ℕ) (S L : List ℕ) (v i : ℕ) → faultyFrom n S L v (floorOf S L v i) (getD L i 0) ≡ faultyLink n S L v i
+unfolding faultyFrom faultyLink floorOf
+link-from n S L v i =
+    lt-or-ge (getD S v 0) i
+    (λ l. rw (lt-ltb (getD S v 0) i l, ltb-next (getD L i 0) (getD L (i - 1) 0)) refl)
+    (λ g. rw (le-ltb (getD S v 0) i g, le-ltb (getD L i 0) 0 (omega arith)) refl)
 
 -- what a link that is not faulty keeps
 pub record Sound (n : ℕ) (S L : List ℕ) (v i : ℕ) : Type 0 where
@@ -245,7 +266,8 @@ holds-link S L w v e =
 pub links-sound : (n : ℕ) (S L : List ℕ) → startsTest n S L ≡ Fine → listsTest n S L ≡ Fine → 1 ≤ n → n ≤ 4096
     → length L ≤ 65536 → length S ≡ n + 1 → Block n 1 S L ones
 links-sound n S L starts lists one most room long =
-    let s : Starts n S L = starts-kept n S L (right-starts n S L starts) most room long in
+    let fits : Fits n S L = record { one = one; frames = most; places = room; long = long } in
+    let s : Starts n S L = starts-kept n S L (right-starts n S L starts) fits in
     let at : (v i : ℕ) → v < n → getD S v 0 ≤ i → i < getD S (v + 1) 0 → Sound n S L v i = lists-sound n S L lists in
     record {
       some = one;
@@ -263,3 +285,50 @@ links-sound n S L starts lists one most room long =
       least = λ i h. omega arith;
       most = λ i h. omega arith;
     }
+
+-- ---- a block passes
+
+module _ {n : ℕ} (S L : List ℕ) (b : Block n 1 S L ones) where
+  block-starts : startsRight n S L ≡ true
+  unfolding startsRight
+  block-starts =
+      both _ _
+      (both _ _ (eq-eqb _ _ (b .front))
+      (not-of-false (some-none (falls S) 0 n (λ v low high. le-ltb _ _ (b .rise v (omega arith))))))
+      (eq-eqb _ _ (b .last))
+
+  -- a link stands above the one before it
+  block-above : (v i : ℕ) → v < n → getD S v 0 ≤ i → i < getD S (v + 1) 0 → floorOf S L v i ≤ getD L i 0
+  block-above v i h low high =
+      lt-or-ge (getD S v 0) i
+      (λ l.
+      let k : ℕ = i - 1 in
+      let next : k + 1 ≡ i = omega arith in
+      omega (
+        arith,
+        ap (floorOf S L v) next,
+        ap (λ (j : ℕ). getD L j 0) next,
+        floor-behind S L v k (omega arith),
+        b .rising v k h (omega arith) (omega arith),
+      ))
+      (λ g. omega (arith, floor-front S L v i g))
+
+  block-link : (v i : ℕ) → v < n → getD S v 0 ≤ i → i < getD S (v + 1) 0 → faultyLink n S L v i ≡ false
+  block-link v i h low high =
+      let w : ℕ = getD L i 0 in
+      let m : Link S L ones w v 1 = b .mirror v i h low high in
+      sym (link-from n S L v i)
+      ∙ link-fine n S L v (floorOf S L v i) w (b .inside v i h low high) (b .apart v i h low high)
+      (block-above v i h low high)
+      (holds-at S L w v (m .at) (m .from) (m .upto) (m .holds))
+
+  -- a block whose sizes fit passes check links
+  pub links-whole : n ≤ 4096 → length L ≤ 65536 → checkLinks n S L ≡ Fine
+  unfolding faultyList degree
+  links-whole most room =
+      let none : first (faultyList n S L) 0 n ≡ 0 + n =
+      first-none (faultyList n S L) 0 n
+      (λ v low high.
+      some-none (faultyLink n S L v) (getD S v 0) (degree S v)
+      (λ i from upto. block-link v i (omega arith) from (omega arith))) in
+      links-alone n S L (b .some) most room (b .long) ∙ tests-fine n S L n block-starts (omega arith) refl

@@ -1,5 +1,5 @@
 -- The order's test: what a pass over the ranks keeps, that sizes and lengths tested first leave the test itself, and that
--- a passed test gives each frame once.
+-- the test is passed exactly by each frame once.
 use Prim.Native.Nat.{ℕ, _+_, _-_, _≤_, _<_}
 use mathlib.Core.Path.{_≡_, refl, sym, ap, _∙_}
 use mathlib.Core.Bool.{Bool, true, false}
@@ -11,7 +11,7 @@ use lib.ListN.{length, getD, set, replicate, length-set, length-replicate, getD-
 use lib.Dec.{leb, eqb}
 use borrow.Author.Tests.{le-leb, lt-leb, eq-eqb, ne-eqb, leb-false, eqb-true, eqb-false}
 use Rattle.basics.specs.Places.{first, some}
-use Rattle.basics.proofs.Laws.{by-cases, either-false, either-left, either-right, neither, same-truth, first-before, first-here, first-step, first-over, some-end, some-one, some-found, some-not, at-set}
+use Rattle.basics.proofs.Laws.{by-cases, either-false, either-left, either-right, neither, same-truth, first-before, first-none, first-here, first-step, first-over, some-end, some-one, some-found, some-not, some-none, at-set}
 use Rattle.refusal.specs.Numbers.{SIZE, LENGTH, ORDER}
 use Rattle.refusal.specs.Tests.{refusal}
 use Rattle.refusal.specs.declared.Verdict.the-variants.{Fine, Refused}
@@ -33,11 +33,10 @@ pub order-unfit : (n : ℕ) (O : List ℕ) → framesFit n ≡ false → checkOr
 unfolding checkOrder
 order-unfit n O e = after-refused _ (test-refused _ _ e)
 
-pub order-length : (n : ℕ) (O : List ℕ) → 1 ≤ n → n ≤ 4096 → (length O ≡ n → ⊥)
-    → checkOrder n O ≡ Refused (refusal LENGTH 0)
+pub order-length : (n : ℕ) (O : List ℕ) → framesFit n ≡ true → (length O ≡ n → ⊥) → checkOrder n O ≡ Refused (refusal LENGTH 0)
 unfolding checkOrder
-order-length n O one most other =
-    after-fine _ (test-fine _ _ (frames-fit n one most))
+order-length n O fits other =
+    after-fine _ (test-fine _ _ fits)
     ∙ after-refused _ (test-refused _ _ (ne-eqb (length O) n other))
 
 -- ---- one pass over the ranks
@@ -156,3 +155,20 @@ order-sound n O fine long =
       once = λ r s h k e.
           eqb-false (f r) (f s) (some-not (λ j. eqb (f j) (f s)) 0 s r (sound-new n f s (sound s k)) (omega arith) (omega arith)) e;
     }
+
+-- an order passes its test
+pub order-passes : (n : ℕ) (O : List ℕ) → Order n O → orderTest n O ≡ Fine
+unfolding orderTest stands
+order-passes n O o =
+    let f : ℕ → ℕ = λ j. getD O j 0 in
+    let end : first (faultyRank n f) 0 n ≡ 0 + n =
+    first-none (faultyRank n f) 0 n
+    (λ r low h.
+    rank-sound n f r (o .inside r (omega arith))
+    (some-none (λ j. eqb (f j) (f r)) 0 r (λ j from l. ne-eqb (f j) (f r) (o .once j r (omega arith) (omega arith))))) in
+    let whole : first (faultyRank n f) 0 n ≡ n = omega arith in
+    test-fine ORDER _ (eq-eqb _ _ whole)
+
+-- and, where n fits, check order
+pub order-whole : (n : ℕ) (O : List ℕ) → Order n O → 1 ≤ n → n ≤ 4096 → checkOrder n O ≡ Fine
+order-whole n O o one most = order-alone n O one most (o .long) ∙ order-passes n O o

@@ -6,25 +6,17 @@ ghost use Rattle.links.specs.Order.{checkOrder, ordered, degreeOf};
 
 mod once;
 mod ranks;
-mod refuse;
 mod scan;
+mod sizes;
 
 // Check links: tests 1 to 4 on n frames, their start positions and neighbour places.
 pub fn check_links(n: usize, starts: &[u32], places: &[u32]) -> Verdict
     ensures { λ r. ⌜ r ≡ checkLinks n (now (starts .entry)) (now (places .entry)) ⌝ }
 {
-    if n < 1 {
-        return refuse::refused(refusal::SIZE, 0);
-    }
-    if 4096 < n {
-        return refuse::refused(refusal::SIZE, 0);
-    }
-    if 65536 < places.len() {
-        return refuse::refused(refusal::SIZE, 0);
-    }
-    if starts.len() != n + 1 {
-        return refuse::refused(refusal::LENGTH, 0);
-    }
+    let fits = sizes::tests(n, starts, places);
+    let Verdict::Fine = fits else {
+        return fits;
+    };
     scan::tests(n, starts, places)
 }
 
@@ -32,40 +24,29 @@ pub fn check_links(n: usize, starts: &[u32], places: &[u32]) -> Verdict
 pub fn check_order(n: usize, order: &[u32]) -> Verdict
     ensures { λ r. ⌜ r ≡ checkOrder n (now (order .entry)) ⌝ }
 {
-    if n < 1 {
-        return refuse::refused(refusal::SIZE, 0);
+    if sizes::frames_fit(n) {
+        if order.len() == n {
+            return once::each_once(n, order);
+        }
+        return refusal::refused(refusal::LENGTH, 0);
     }
-    if 4096 < n {
-        return refuse::refused(refusal::SIZE, 0);
-    }
-    if order.len() != n {
-        return refuse::refused(refusal::LENGTH, 0);
-    }
-    once::each_once(n, order)
+    refusal::refused(refusal::SIZE, 0)
 }
 
 // Order by degree: tests 1 to 4, then the order room filled; as lent where a test refuses.
 pub fn order_by_degree(n: usize, starts: &[u32], places: &[u32], order: &mut [u32]) -> Verdict
     ensures { λ r. ⌜ ordered r (now (order .exit)) ≡ degreeOf n (now (starts .entry)) (now (places .entry)) (now (order .entry)) ⌝ }
 {
-    if n < 1 {
-        return refuse::refused(refusal::SIZE, 0);
-    }
-    if 4096 < n {
-        return refuse::refused(refusal::SIZE, 0);
-    }
-    if 65536 < places.len() {
-        return refuse::refused(refusal::SIZE, 0);
-    }
-    if starts.len() != n + 1 {
-        return refuse::refused(refusal::LENGTH, 0);
-    }
+    let fits = sizes::tests(n, starts, places);
+    let Verdict::Fine = fits else {
+        return fits;
+    };
     if order.len() != n {
-        return refuse::refused(refusal::LENGTH, 0);
+        return refusal::refused(refusal::LENGTH, 0);
     }
-    let verdict = scan::tests(n, starts, places);
-    let Verdict::Fine = verdict else {
-        return verdict;
+    let links = scan::tests(n, starts, places);
+    let Verdict::Fine = links else {
+        return links;
     };
     ranks::fill(n, starts, order);
     Verdict::Fine

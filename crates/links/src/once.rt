@@ -15,10 +15,10 @@ pub fn each_once(n: usize, order: &[u32]) -> Verdict
     while r < n {
         let v = order[r] as usize;
         if n <= v {
-            return crate::refuse::refused(refusal::ORDER, r);
+            return refusal::refused(refusal::ORDER, r);
         }
         if seen[v] {
-            return crate::refuse::refused(refusal::ORDER, r);
+            return refusal::refused(refusal::ORDER, r);
         }
         seen[v] = true;
         r += 1;

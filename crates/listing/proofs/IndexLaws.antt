@@ -3,27 +3,27 @@ use Prim.Native.Nat.{ℕ, _*_, _≤_, _<_}
 use native.Mathlib.Nat.{zero-add}
 use native.Mathlib.Omega.{arith}
 use mathlib.Core.Path.{_≡_, refl, sym, ap, subst, _∙_}
-use mathlib.Core.Bool.{Bool, true, false, not}
+use mathlib.Core.Bool.{true}
 use mathlib.Core.List.{List, _++_}
 use lib.ListN.{length, take}
 use lib.Seq.{length-take-le}
-use lib.Dec.{leb, eqb}
-use borrow.Author.Tests.{le-leb, lt-leb, eqb-true}
-use Rattle.basics.specs.Places.{first, sum}
-use Rattle.basics.proofs.Laws.{first-before, of-not-false}
+use lib.Dec.{leb}
+use borrow.Author.Tests.{le-leb, lt-leb}
+use Rattle.basics.specs.Places.{sum}
 use Rattle.refusal.specs.Numbers.{SIZE, ROW}
 use Rattle.refusal.specs.Tests.{test, _then_, refusal}
 use Rattle.refusal.specs.declared.Refusal.{Refusal}
 use Rattle.refusal.specs.declared.Verdict.{Verdict}
-use Rattle.refusal.proofs.Laws.{vcase, then-fine, test-held, test-fine, test-refused, after-fine, after-refused}
+use Rattle.refusal.proofs.Laws.{test-fine, test-refused, after-fine, after-refused}
 use Rattle.rows.specs.declared.spread.SpreadAnswer.{SpreadAnswer}
-use Rattle.rows.specs.Rooms.{Rooms, soundRow, roomTests, rowsTest, checkRows}
+use Rattle.rows.specs.Rooms.{soundRow, checkRows}
 use Rattle.rows.specs.Spread.{spreadBy, spreadOf, farthest}
-use Rattle.rows.proofs.RoomLaws.{fine-rooms}
+use Rattle.rows.proofs.RoomLaws.{rows-sound}
 use Rattle.file.specs.declared.Opened.{Opened}
-use Rattle.file.specs.Reader.{framesOf, stopOf, headerTest, headerOf, opened, readTest, readOf, filledIn, outcome, Outcome}
-use Rattle.listing.specs.Lines.{WIDTH, MOST, Shown, headText, linesText, refusedText}
-use Rattle.listing.specs.Listing.{indexText, fileText, readText, listingTest, listingOf, Cut}
+use Rattle.file.specs.Reader.{framesOf, stopOf, headerTest, headerOf, readTest, readOf, filledIn, outcome, Outcome}
+use Rattle.file.proofs.Heading.{index-is, refused-is}
+use Rattle.listing.specs.Lines.{WIDTH, MOST, Cut, Shown, headText, linesText, refusedText}
+use Rattle.listing.specs.Listing.{indexText, fileText, readText, listingTest, listingOf}
 
 -- ---- the index
 
@@ -35,22 +35,14 @@ fine-by (Verdict.Refused r) joins spread e = let z : _≡_ {A = ℕ} 0 1 = cc in
 
 pub shown-by : (n spread : ℕ) {order labels counts : List ℕ} → spreadOf n WIDTH labels counts ≡ SpreadAnswer.Spread spread
     → Cut order labels counts → Shown order labels counts
-unfolding spreadOf checkRows rowsTest
+unfolding spreadOf
 shown-by n spread {order} {labels} {counts} e cut =
-    let fine : checkRows n n WIDTH labels counts ≡ Verdict.Fine = fine-by (checkRows n n WIDTH labels counts) _ spread e in
-    let both : (roomTests n WIDTH labels counts ≡ Verdict.Fine) × (rowsTest n n WIDTH labels counts ≡ Verdict.Fine) =
-    then-fine _ _ fine in
-    let rooms : Rooms n WIDTH labels counts = fine-rooms n WIDTH labels counts (both .0) in
-    let all : first (λ u. not (soundRow n n WIDTH labels counts u)) 0 n ≡ n = eqb-true _ _ (test-held _ _ _ (both .1)) in
+    let (rooms, sound) = rows-sound n n WIDTH labels counts (fine-by (checkRows n n WIDTH labels counts) _ spread e) in
     record {
-      frames = cut .frames;
-      ordered = cut .ordered;
-      places = cut .places;
+      cut = cut;
       sound =
           λ v inside.
-          subst (λ (m : ℕ). soundRow m m WIDTH labels counts v ≡ true) (sym (rooms .each))
-          (of-not-false _
-          (first-before (λ u. not (soundRow n n WIDTH labels counts u)) 0 n v (omega arith) (omega (arith, all, rooms .each))));
+          subst (λ (m : ℕ). soundRow m m WIDTH labels counts v ≡ true) (sym (rooms .each)) (sound v (omega (arith, rooms .each)));
     }
 
 pub text-shown : {a : SpreadAnswer} {spread : ℕ} (n k : ℕ) (order labels counts : List ℕ) → a ≡ SpreadAnswer.Spread spread
@@ -101,27 +93,19 @@ module _ (s order labels counts : List ℕ) {order' labels' counts' : List ℕ} 
 
 -- ---- the header
 
-header-fine : (v : Verdict) (m j : ℕ) {n k : ℕ} → opened v m j ≡ Opened.Index n k → (v ≡ Verdict.Fine) × (m ≡ n)
-unfolding opened
-header-fine Verdict.Fine m j e = (refl, cc)
-header-fine (Verdict.Refused r) m j e = let z : _≡_ {A = ℕ} 0 1 = cc in absurd (omega arith)
-
-header-not : (v : Verdict) (m j : ℕ) {r : Refusal} → opened v m j ≡ Opened.Refused r → v ≡ Verdict.Refused r
-unfolding opened
-header-not Verdict.Fine m j e = let z : _≡_ {A = ℕ} 0 1 = cc in absurd (omega arith)
-header-not (Verdict.Refused r) m j e = cc
-
 -- a refused header
 pub header-refused : (s : List ℕ) {a : Opened} {r : Refusal} → a ≡ headerOf s → a ≡ Opened.Refused r
     → refusedText (r .number) ≡ listingOf s
 unfolding headerOf listingTest listingOf readText
 header-refused s e f =
-    sym (ap (λ (v : Verdict). readText v s) (after-refused _ (header-not (headerTest s) _ _ (sym e ∙ f))))
+    sym (ap (λ (v : Verdict). readText v s) (after-refused _ (refused-is (headerTest s) _ _ (sym f ∙ e))))
 
 module _ (s : List ℕ) {a : Opened} {n k : ℕ} (e : a ≡ headerOf s) (f : a ≡ Opened.Index n k) where
   fine : (headerTest s ≡ Verdict.Fine) × (framesOf s ≡ n)
   unfolding headerOf
-  fine = header-fine (headerTest s) (framesOf s) (stopOf s) (sym e ∙ f)
+  fine =
+      let (v, frames, stop) = index-is (headerTest s) (framesOf s) (stopOf s) (sym f ∙ e) in
+      (v, sym frames)
 
   -- more than 256 frames
   pub over-frames : MOST < n → refusedText SIZE ≡ listingOf s

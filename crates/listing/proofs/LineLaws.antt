@@ -3,19 +3,17 @@ use Prim.Native.Nat.{ℕ, zero, suc, _+_, _≤_, _<_}
 use native.Mathlib.Nat.{add-zero, zero-add}
 use native.Mathlib.Numerals.{add-one}
 use native.Mathlib.Omega.{arith}
-use mathlib.Core.Path.{_≡_, refl, sym, ap, subst, _∙_}
+use mathlib.Core.Path.{_≡_, refl, sym, ap, _∙_}
 use mathlib.Core.List.{List, [], _∷_, _++_, append-assoc, append-nil}
 use lib.ListN.{length, getD, take}
 use lib.Seq.{take-suc}
-use Rattle.basics.specs.Places.{sum}
-use Rattle.basics.proofs.Laws.{sum-append}
 use Rattle.rows.specs.Entry.{rankOf}
 use Rattle.rows.specs.Rooms.{Rooms, partOf, rowAt}
 use Rattle.rows.proofs.Laws.{Sound, row-sound}
 use Rattle.rows.proofs.RoomLaws.{part-is-row, length-row}
 use Rattle.listing.specs.Text.{Put}
 use Rattle.listing.specs.Lines.{WIDTH, Shown, entryText, entriesText, lineText, linesText}
-use Rattle.listing.proofs.TextLaws.{put-more}
+use Rattle.listing.proofs.TextLaws.{put-more, put-as}
 
 -- ---- the entries
 
@@ -42,8 +40,8 @@ entries-next order row i inside =
 pub put-entry : {room mid last : List ℕ} {at next end : ℕ} (order row : List ℕ) (i : ℕ) → i < length row
     → Put room at (entriesText order (take i row)) mid next → Put mid next (entryText order (getD row i 0)) last end
     → Put room at (entriesText order (take (i + 1) row)) last end
-put-entry {room} {last = last} {at} {end = end} order row i inside p q =
-    subst (λ (t : List ℕ). Put room at t last end) (entries-next order row i inside) (put-more p q)
+put-entry order row i inside p q =
+    put-as (entries-next order row i inside) (put-more p q)
 
 -- ---- the lines
 
@@ -67,9 +65,8 @@ pub put-line : {room mid last : List ℕ} {at next end : ℕ} (order labels coun
     → Put room at (linesText WIDTH order labels counts 0 v) mid next
     → Put mid next (lineText order v (rowAt WIDTH labels counts v)) last end
     → Put room at (linesText WIDTH order labels counts 0 (v + 1)) last end
-put-line {room} {last = last} {at} {end = end} order labels counts v p q =
-    subst
-    (λ (t : List ℕ). Put room at t last end)
+put-line order labels counts v p q =
+    put-as
     (ap
     (λ (u : ℕ). linesText WIDTH order labels counts 0 v ++ lineText order u (rowAt WIDTH labels counts u))
     (sym (zero-add v))
@@ -83,10 +80,10 @@ module _ {order labels counts : List ℕ} (s : Shown order labels counts) (v : �
   rooms =
       record {
         some-frames = omega arith;
-        frames = omega (arith, s .frames);
+        frames = omega (arith, s .cut .frames);
         some-width = omega arith;
         width = omega arith;
-        places = s .places;
+        places = s .cut .places;
         each = refl;
       }
 
@@ -106,12 +103,4 @@ module _ {order labels counts : List ℕ} (s : Shown order labels counts) (v : �
       → rankOf (getD (rowAt WIDTH labels counts v) i 0) < length order
   shown-ranks i k =
       let inside : i < getD counts v 0 = omega (arith, length-row rooms v h (sound .0)) in
-      omega (arith, sound .1 .rank i inside, s .ordered)
-
--- ---- the sum of the counts
-
-pub sum-next : (xs : List ℕ) (i : ℕ) → i < length xs → sum (take (i + 1) xs) ≡ sum (take i xs) + getD xs i 0
-unfolding sum
-sum-next xs i h =
-    ap (λ (k : ℕ). sum (take k xs)) (add-one i)
-    ∙ (ap sum (take-suc xs i 0 h) ∙ (sum-append (take i xs) (getD xs i 0 ∷ []) ∙ rw add-zero refl))
+      omega (arith, sound .1 .rank i inside, s .cut .ordered)

@@ -36,6 +36,10 @@ put-more {room} {mid} {last} {s} {t} {at} {next} {end} p q =
       holds = q .holds ∙ (ap (λ (l : List ℕ). l ++ t) (p .holds) ∙ append-assoc (take at room) s t);
     }
 
+-- the same text
+pub put-as : {room last s t : List ℕ} {at end : ℕ} → s ≡ t → Put room at s last end → Put room at t last end
+put-as {room} {last} {at = at} {end} e p = subst (λ (t : List ℕ). Put room at t last end) e p
+
 -- one byte more of a text
 pub put-next : {room mid : List ℕ} {at : ℕ} (text : List ℕ) (i : ℕ) → i < length text → at + i < length mid
     → Put room at (take i text) mid (at + i)

@@ -16,11 +16,19 @@ WIDTH = 32
 abbrev pub MOST : ℕ
 MOST = 256
 
--- rooms that can be listed: their lengths go by the number of frames, and each row is sound for the bound n
-pub record Shown (order labels counts : List ℕ) : Type 0 where
+-- bytes of the longest text: a first line of 111, and 256 lines of 1,365
+abbrev pub LONGEST : ℕ
+LONGEST = 349551
+
+-- rooms cut to one number of frames, at most 256
+pub record Cut (order labels counts : List ℕ) : Type 0 where
   pub frames : length counts ≤ MOST
   pub ordered : length order ≡ length counts
   pub places : length labels ≡ length counts * WIDTH
+
+-- rooms that can be listed: cut, and each row is sound for the bound n
+pub record Shown (order labels counts : List ℕ) : Type 0 where
+  pub cut : Cut order labels counts
   pub sound : (v : ℕ) → v < length counts → soundRow (length counts) (length counts) WIDTH labels counts v ≡ true
 
 abbrev pub space : ℕ

@@ -1,7 +1,6 @@
 -- What the listing program prints for an input: the tests in the paper's order, then the index line by line. `s` is the
 -- byte string.
-use Prim.Native.Nat.{ℕ, _*_, _≤_}
-use mathlib.Core.Path.{_≡_}
+use Prim.Native.Nat.{ℕ, _*_}
 use mathlib.Core.List.{List, _++_}
 use lib.ListN.{length}
 use lib.Dec.{leb}
@@ -11,14 +10,8 @@ use Rattle.refusal.specs.Tests.{test, _then_}
 use Rattle.refusal.specs.declared.Verdict.{Verdict}
 use Rattle.rows.specs.declared.spread.SpreadAnswer.{SpreadAnswer}
 use Rattle.rows.specs.Spread.{spreadOf}
-use Rattle.file.specs.declared.Opened.{Opened}
 use Rattle.file.specs.Reader.{framesOf, stopOf, headerTest, readTest, orderRead, labelsRead, countsRead}
 use Rattle.listing.specs.Lines.{WIDTH, MOST, headText, linesText, refusedText}
-
--- the number of a refusal, 0 of an index
-unfoldable pub numberOf : Opened → ℕ
-numberOf (Opened.Index n k) = 0
-numberOf (Opened.Refused r) = r .number
 
 -- first line, then a line per frame
 unfoldable pub indexText : SpreadAnswer → ℕ → ℕ → List ℕ → List ℕ → List ℕ → List ℕ
@@ -52,9 +45,3 @@ listingTest s =
 -- the whole text
 unfoldable pub listingOf : List ℕ → List ℕ
 listingOf s = readText (listingTest s) s
-
--- rooms cut to one number of frames, at most 256
-pub record Cut (order labels counts : List ℕ) : Type 0 where
-  pub frames : length counts ≤ MOST
-  pub ordered : length order ≡ length counts
-  pub places : length labels ≡ length counts * WIDTH

@@ -4,21 +4,22 @@ ghost use mathlib.Core.Bool.{not};
 ghost use Prim.Native.Nat.{_*_, _≤_};
 ghost use lib.ListN.{length};
 ghost use Rattle.rows.specs.Spread.{spreadOf};
-ghost use Rattle.file.specs.Reader.{readTest};
+ghost use Rattle.file.specs.Reader.{readTest, told};
 ghost use Rattle.listing.specs.Text.{Put};
-ghost use Rattle.listing.specs.Lines.{WIDTH as width, MOST};
-ghost use Rattle.listing.specs.Listing.{numberOf, listingOf, readText, indexText, Cut};
+ghost use Rattle.listing.specs.Lines.{WIDTH as width, MOST, LONGEST, Cut};
+ghost use Rattle.listing.specs.Listing.{listingOf, readText, indexText};
 use crate::FRAMES;
 use crate::WIDTH;
 use crate::lines;
 use file::Opened;
 use refusal::SIZE;
 use rows::entry::Entry;
+use rows::rooms::total;
 use rows::spread::SpreadAnswer;
 
 // The number of a refusal, 0 of an index.
 fn number_of(opened: Opened) -> u32
-    ensures { λ r. ⌜ r ≡ numberOf opened ⌝ }
+    ensures { λ r. ⌜ r ≡ told opened .number ⌝ }
 {
     match opened {
         Opened::Index(_, _) => 0,
@@ -35,9 +36,9 @@ pub fn open(
     out: &mut [u8],
 ) -> usize
     requires { ⌜ (length (now order) ≡ MOST) × (length (now labels) ≡ MOST * width) × (length (now counts) ≡ MOST) ⌝ }
-    requires { ⌜ 349551 ≤ length (now out) ⌝ }
+    requires { ⌜ LONGEST ≤ length (now out) ⌝ }
     ensures put { λ r. ⌜ Put (now (out .entry)) 0 (listingOf (now (bytes .entry))) (now (out .exit)) r ⌝ }
-    ensures near { λ r. ⌜ r ≤ 349551 ⌝ }
+    ensures near { λ r. ⌜ r ≤ LONGEST ⌝ }
 {
     let opened = file::header(bytes);
     let Opened::Index(n, _) = opened else {
@@ -65,13 +66,13 @@ fn read(
     out: &mut [u8],
 ) -> usize
     requires { ⌜ Cut (now order) (now labels) (now counts) ⌝ }
-    requires { ⌜ 349551 ≤ length (now out) ⌝ }
+    requires { ⌜ LONGEST ≤ length (now out) ⌝ }
     ensures put { λ r. ⌜
         Put (now (out .entry)) 0
         (readText (readTest (now (bytes .entry)) width (length (now (order .entry))) (length (now (labels .entry))) (length (now (counts .entry)))) (now (bytes .entry)))
         (now (out .exit)) r
         ⌝ }
-    ensures near { λ r. ⌜ r ≤ 349551 ⌝ }
+    ensures near { λ r. ⌜ r ≤ LONGEST ⌝ }
 {
     let opened = file::read(bytes, WIDTH, order, labels, counts);
     let Opened::Index(n, k) = opened else {
@@ -90,19 +91,19 @@ fn show(
     out: &mut [u8],
 ) -> usize
     requires { ⌜ Cut (now order) (now labels) (now counts) ⌝ }
-    requires { ⌜ 349551 ≤ length (now out) ⌝ }
+    requires { ⌜ LONGEST ≤ length (now out) ⌝ }
     ensures put { λ r. ⌜
         Put (now (out .entry)) 0
         (indexText (spreadOf n width (now (labels .entry)) (now (counts .entry))) n k (now (order .entry)) (now (labels .entry)) (now (counts .entry)))
         (now (out .exit)) r
         ⌝ }
-    ensures near { λ r. ⌜ r ≤ 349551 ⌝ }
+    ensures near { λ r. ⌜ r ≤ LONGEST ⌝ }
 {
     let answer = rows::spread::spread(n, WIDTH, labels, counts);
     let SpreadAnswer::Spread(spread) = answer else {
         return lines::refused(out, refusal::ROW);
     };
-    let entries = lines::total(counts);
+    let entries = total(counts);
     let at = lines::head(out, n, k, entries, spread);
     lines::lines(out, at, order, labels, counts)
 }

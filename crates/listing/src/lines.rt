@@ -3,8 +3,6 @@
 ghost use Prim.Native.Nat.{ℕ, _+_, _*_, _<_, _≤_};
 ghost use mathlib.Core.List.{_∷_, _++_};
 ghost use lib.ListN.{length, getD};
-ghost use mathlib.Core.Path.{_≡_};
-ghost use Rattle.basics.specs.Places.{sum};
 ghost use Rattle.rows.specs.Entry.{rankOf};
 ghost use Rattle.listing.specs.Text.{Put, decimal};
 ghost use Rattle.listing.specs.Lines.{WIDTH as width, Shown, entryText, entriesText, lineText, linesText, headText, refusedText};
@@ -99,20 +97,6 @@ pub fn refused(out: &mut [u8], number: u32) -> usize
 {
     let at_end = figure(out, 0, b"refused ", number as usize);
     text::byte(out, at_end, b'\n')
-}
-
-// The sum of all counts.
-pub fn total(counts: &[u32]) -> usize
-    requires { ⌜ length (now counts) ≤ 256 ⌝ }
-    ensures { λ r. ⌜ r ≡ sum (now (counts .entry)) ⌝ }
-{
-    let mut entries: usize = 0;
-    let mut v: usize = 0;
-    while v < counts.len() {
-        entries += counts[v] as usize;
-        v += 1;
-    }
-    entries
 }
 
 // The lines of all frames.

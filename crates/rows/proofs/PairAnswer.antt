@@ -1,8 +1,8 @@
 -- The answer of the pair question is the theory's: over rows with ranks and joins below n, the best meeting has the least sum
 -- of joins over the ranks below n that are in both rows.
-use Prim.Native.Nat.{ℕ, zero, suc, _+_, _*_, _≤_, _<_, min}
+use Prim.Native.Nat.{ℕ, zero, suc, _+_, _≤_, _<_, min}
 use mathlib.Core.Path.{_≡_, refl, sym, ap, subst, _∙_}
-use mathlib.Core.Bool.{Bool, true, false, cond, _&&_, _||_}
+use mathlib.Core.Bool.{true, false, cond}
 use mathlib.Core.List.{List, [], _∷_, _++_, List·Memᴰ·not-nil, List·Memᴰ·cases-cons}
 use native.Mathlib.Decide.{ℕ-discrete}
 use native.Mathlib.Nat.{le-antisymm, one-mul}
@@ -11,9 +11,9 @@ use borrow.Author.Tests.{ltb-true, ltb-false, lt-ltb, le-ltb, eqb-true, eq-eqb, 
 use lib.ListN.{length, getD}
 use lib.Dec.{eqb, ltb}
 use Rattle.basics.specs.Places.{least}
-use Rattle.basics.proofs.Laws.{bcase, by-cases, lt-or-ge, three-ways, cond-true, cond-false, either-false, either-true, both-true, cases, least-most, least-ge}
+use Rattle.basics.proofs.Laws.{bcase, by-cases, three-ways, cond-true, cond-false, either-false, either-true, both-true, cases, least-most, least-ge}
 use Rattle.refusal.specs.declared.Verdict.the-variants.{Fine}
-use Rattle.theory.specs.Chains.{Count, joins, none, Least}
+use Rattle.theory.specs.Chains.{joins, Least}
 use Rattle.theory.specs.Distance.{far, said}
 use Rattle.theory.specs.Rows.{Row, In, Shared, at, answer}
 use Rattle.theory.proofs.Answer.{literal}

@@ -11,7 +11,6 @@ use lib.Seq.{ext-getD}
 use Rattle.basics.specs.Places.{some}
 use Rattle.basics.proofs.Laws.{lt-or-ge, not-both}
 use Rattle.refusal.specs.Tests.{test, _then_}
-use Rattle.refusal.specs.declared.Refusal.{Refusal}
 use Rattle.refusal.specs.declared.Verdict.{Verdict}
 use Rattle.refusal.specs.declared.Verdict.the-variants.{Fine, Refused}
 use Rattle.refusal.proofs.Laws.{vcase}

@@ -1,7 +1,7 @@
 -- The laws of the pair question: its tests one by one, what they let through, and the cases of its answer.
-use Prim.Native.Nat.{ℕ, _+_, _*_, _≤_, _<_}
-use mathlib.Core.Path.{_≡_, refl, sym, ap, _∙_}
-use mathlib.Core.Bool.{Bool, true, false}
+use Prim.Native.Nat.{ℕ, _≤_, _<_}
+use mathlib.Core.Path.{_≡_, sym, ap, _∙_}
+use mathlib.Core.Bool.{true, false}
 use mathlib.Core.List.{List}
 use native.Mathlib.Omega.{arith}
 use borrow.Author.Tests.{ltb-true, lt-ltb, le-ltb}
@@ -12,11 +12,9 @@ use Rattle.refusal.specs.declared.Verdict.{Verdict}
 use Rattle.refusal.specs.declared.Verdict.the-variants.{Fine, Refused}
 use Rattle.refusal.proofs.Laws.{test-fine, test-refused, test-held, then-fine, after-fine, after-refused}
 use Rattle.rows.specs.Rooms.{Rooms, roomTests, frameTest, rowTest, rowAt, soundRow, checkRow}
-use Rattle.rows.specs.Meetings.{Rises, meetingOf}
-use Rattle.rows.specs.Pair.{pairTests, pairOf, pairTold, answered, told, toldBy, RowIn}
+use Rattle.rows.specs.Meetings.{meetingOf}
+use Rattle.rows.specs.Pair.{pairTests, pairOf, answered, RowIn}
 use Rattle.rows.specs.declared.merge.Best.{Best}
-use Rattle.rows.specs.declared.merge.Best.the-variants.{Nowhere, Meet}
-use Rattle.rows.specs.declared.pair.Answer.{Answer}
 use Rattle.rows.specs.declared.pair.Answer.the-variants as answers
 use Rattle.rows.proofs.Laws.{Sound, row-sound, row-inside}
 use Rattle.rows.proofs.RoomLaws.{fine-rooms, length-row, rooms-fine}
@@ -139,18 +137,6 @@ module _ (n w : ℕ) (labels counts : List ℕ) (s t : ℕ) where
       → pairOf n w labels counts s t ≡ answered Fine best
   unfolding pairOf
   answer-fine e b = λ i. answered (e i) (sym b i)
-
-told-answered : (v : Verdict) (best : Best) → told (answered v best) ≡ toldBy v best
-unfolding told answered toldBy
-told-answered Fine Nowhere = refl
-told-answered Fine (Meet m) = refl
-told-answered (Refused r) best = refl
-
--- the paper's numbers of the answer
-pub answer-told : (n w : ℕ) (labels counts : List ℕ) (s t : ℕ) → told (pairOf n w labels counts s t) ≡ pairTold n w labels counts s t
-unfolding pairOf pairTold
-answer-told n w labels counts s t =
-    told-answered (pairTests n w labels counts s t) (meetingOf (rowAt w labels counts s) (rowAt w labels counts t))
 
 -- ---- the row check
 

@@ -87,13 +87,12 @@ module _ (n w : ℕ) (labels counts : List ℕ) where
   pub spread-fine : {d : ℕ} → checkRows n n w labels counts ≡ verdicts.Fine → d ≡ farthest w labels counts n
       → Spread (2 * d) ≡ spreadOf n w labels counts
   unfolding spreadOf spreadBy
-  spread-fine e f =
-      ap (λ (d : ℕ). Spread (2 * d)) f ∙ sym (ap (λ (x : Verdict). spreadBy x (farthest w labels counts n)) e)
+  spread-fine e f = λ i. spreadBy (sym e i) (f i)
 
   pub spread-refused : {r : Refusal} → checkRows n n w labels counts ≡ verdicts.Refused r
       → Refused r ≡ spreadOf n w labels counts
   unfolding spreadOf spreadBy
-  spread-refused e = sym (ap (λ (x : Verdict). spreadBy x (farthest w labels counts n)) e)
+  spread-refused e = λ i. spreadBy (sym e i) (farthest w labels counts n)
 
 -- ---- the paper's numbers tell
 

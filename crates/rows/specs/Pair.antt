@@ -47,17 +47,6 @@ told (answers.Joins j) = record { number = 0; place = 0; found = true; joins = j
 told answers.None = record { number = 0; place = 0; found = false; joins = 0 }
 told (answers.Refused r) = record { number = r .number; place = r .place; found = false; joins = 0 }
 
--- the same numbers from the tests and the best meeting
-unfoldable pub toldBy : Verdict → Best → Told
-toldBy Fine (Meet m) = record { number = 0; place = 0; found = true; joins = m .sum }
-toldBy Fine Nowhere = record { number = 0; place = 0; found = false; joins = 0 }
-toldBy (Refused r) best = record { number = r .number; place = r .place; found = false; joins = 0 }
-
--- the paper's numbers of the pair question
-unfoldable pub pairTold : ℕ → ℕ → List ℕ → List ℕ → ℕ → ℕ → Told
-pairTold n w labels counts s t =
-    toldBy (pairTests n w labels counts s t) (meetingOf (rowAt w labels counts s) (rowAt w labels counts t))
-
 -- the count that an answer gives
 unfoldable pub countOf : Answer → Count
 countOf (answers.Joins j) = joins j

@@ -6,8 +6,8 @@ use crate::rooms::check_rooms;
 use crate::sound::sound_row;
 use refusal::FRAME;
 use refusal::ROW;
-use refusal::Refusal;
 use refusal::Verdict;
+use refusal::refused;
 
 // Pair: 1, 2, 8 with 0 for the first frame and 1 for the second, then 9 for the first frame, then for the second.
 pub fn check_pair(
@@ -25,28 +25,16 @@ pub fn check_pair(
         return rooms;
     };
     if n <= s {
-        return Verdict::Refused(Refusal {
-            number: FRAME,
-            place: 0,
-        });
+        return refused(FRAME, 0);
     }
     if n <= t {
-        return Verdict::Refused(Refusal {
-            number: FRAME,
-            place: 1,
-        });
+        return refused(FRAME, 1);
     }
     if !sound_row(n, n, w, labels, counts, s) {
-        return Verdict::Refused(Refusal {
-            number: ROW,
-            place: s,
-        });
+        return refused(ROW, s);
     }
     if !sound_row(n, n, w, labels, counts, t) {
-        return Verdict::Refused(Refusal {
-            number: ROW,
-            place: t,
-        });
+        return refused(ROW, t);
     }
     Verdict::Fine
 }

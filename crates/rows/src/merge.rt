@@ -1,12 +1,16 @@
 // The meeting of two rows: the shared rank of the least sum of joins, the lowest such rank first. One pass over both rows;
-// their ranks rise, so that the lesser of two ranks stands in one row alone.
+// their ranks rise, so that the lesser of two ranks stands in one row alone. Which row goes on is not foreseeable, so that
+// a turn has one path: each row's step and the lesser meeting are chosen, not branched to.
 ghost use mathlib.Core.Path.{_≡_};
-ghost use Rattle.rows.specs.Meetings.{lesserOf, meetingOf, Rises};
+ghost use Rattle.rows.specs.Meetings.{atRank, bestOf, lesserBy, meetingOf, pastBy, Rises};
 ghost use Rattle.rows.specs.Pair.{RowIn};
 ghost use Rattle.rows.specs.Rooms.{rowAt};
 use crate::entry::Entry;
 use crate::entry::joins_of;
 use crate::entry::rank_of;
+
+// Above every sum of the joins of two entries: no meeting.
+const NO_SUM: usize = 131072;
 
 // A rank that is in both rows, and the sum of its joins.
 pub struct Meeting {
@@ -14,29 +18,50 @@ pub struct Meeting {
     pub sum: usize,
 }
 
-// The best meeting so far.
+// The best meeting.
 pub enum Best {
     Nowhere,
     Meet(Meeting),
 }
 
-// The lesser of the best so far and one more meeting: by sum, then by rank.
-pub fn lesser(best: Best, meeting: Meeting) -> Best
-    ensures { λ r. ⌜ r ≡ lesserOf best meeting ⌝ }
+// The sum where the two ranks are one.
+fn at_rank(rank: usize, other: usize, sum: usize) -> usize
+    ensures { λ r. ⌜ r ≡ atRank rank other sum ⌝ }
 {
-    let Best::Meet(so_far) = best else {
-        return Best::Meet(meeting);
-    };
-    if meeting.sum < so_far.sum {
-        return Best::Meet(meeting);
+    if rank == other {
+        return sum;
     }
-    if so_far.sum < meeting.sum {
-        return best;
+    NO_SUM
+}
+
+// How far a row goes on: past an entry whose rank is not above the other row's.
+fn step_past(rank: usize, other: usize) -> usize
+    ensures { λ r. ⌜ r ≡ pastBy rank other ⌝ }
+{
+    if rank <= other {
+        return 1;
     }
-    if meeting.rank < so_far.rank {
-        return Best::Meet(meeting);
+    0
+}
+
+// The meeting of the lesser sum; of two equal sums the earlier stays, which has the lower rank.
+fn lesser(least: Meeting, meeting: Meeting) -> Meeting
+    ensures { λ r. ⌜ r ≡ lesserBy least meeting ⌝ }
+{
+    if meeting.sum < least.sum {
+        return meeting;
     }
-    best
+    least
+}
+
+// The least found, or nowhere.
+fn best_of(least: Meeting) -> Best
+    ensures { λ r. ⌜ r ≡ bestOf least ⌝ }
+{
+    if least.sum < NO_SUM {
+        return Best::Meet(least);
+    }
+    Best::Nowhere
 }
 
 // The best meeting of two rows.
@@ -44,29 +69,26 @@ pub fn merge(a: &[Entry], b: &[Entry]) -> Best
     requires { ⌜ Rises (now a) × Rises (now b) ⌝ }
     ensures { λ r. ⌜ r ≡ meetingOf (now (a .entry)) (now (b .entry)) ⌝ }
 {
-    let mut best = Best::Nowhere;
+    let mut least = Meeting {
+        rank: 0,
+        sum: NO_SUM,
+    };
     let mut i: usize = 0;
     let mut j: usize = 0;
     while i < a.len() {
         if b.len() <= j {
-            return best;
+            return best_of(least);
         }
         let e = a[i];
         let f = b[j];
         let rank = rank_of(e);
         let other = rank_of(f);
-        if rank < other {
-            i += 1;
-        } else if other < rank {
-            j += 1;
-        } else {
-            let sum = joins_of(e) + joins_of(f);
-            best = lesser(best, Meeting { rank, sum });
-            i += 1;
-            j += 1;
-        }
+        let sum = at_rank(rank, other, joins_of(e) + joins_of(f));
+        least = lesser(least, Meeting { rank, sum });
+        i += step_past(rank, other);
+        j += step_past(other, rank);
     }
-    best
+    best_of(least)
 }
 
 // The best meeting of the rows of two frames: each part starts at v * W and is as long as its count.

@@ -11,7 +11,7 @@ use lib.ListN.{length, take, drop}
 use Rattle.theory.specs.Links.{Link, hubOf}
 use Rattle.theory.specs.Chains.{Least, ThroughOf}
 use Rattle.theory.specs.Plain.{ones}
-use Rattle.rows.specs.Pair.{pairOf, pairTold, Told, told, countOf}
+use Rattle.rows.specs.Pair.{pairOf, told, countOf}
 use Rattle.rows.specs.declared.pair.Answer.{Answer}
 use Rattle.rows.proofs.pair.pair.Kinds as pair-kinds
 use Rattle.rows.proofs.pair.pair.Reads as pair-reads
@@ -30,7 +30,7 @@ use Rattle.file.proofs.write.Kinds as write-kinds
 use Rattle.file.proofs.write.Reads as write-reads
 use Rattle.file.proofs.read.Kinds as read-kinds
 use Rattle.file.proofs.read.Reads as read-reads
-use Rattle.theorems.specs.Demands.{Demands, askedOf}
+use Rattle.theorems.specs.Demands.{Demands}
 use Rattle.theorems.specs.EndToEnd.{EndToEnd, fileSize}
 use Rattle.theorems.proofs.Demand.{built-demands}
 use Rattle.theorems.proofs.EndToEnd.{end-to-end}
@@ -128,19 +128,10 @@ pub record PairCall (n w : ℕ) (labels counts : List ℕ) (s t : ℕ) (r : Answ
   pub first : a .1 .1 .1 .1 .0 ≡ s
   pub second : a .1 .1 .1 .1 .1 .0 ≡ t
 
--- what it hands back is the answer that the demands speak of
-pub pair-out : {n w : ℕ} {labels counts : List ℕ} {s t : ℕ} {r : Answer} → PairCall n w labels counts s t r
-    → countOf r ≡ askedOf n w labels counts s t
+pair-out : {n w : ℕ} {labels counts : List ℕ} {s t : ℕ} {r : Answer} → PairCall n w labels counts s t r
+    → r ≡ pairOf n w labels counts s t
 pair-out c =
-    ap countOf
-    (c .post .0 ∙ (λ i. pairOf (c .frames i) (c .width i) (c .labels-lent i) (c .counts-lent i) (c .first i) (c .second i)))
-
--- with the paper's numbers
-pair-numbers : {n w : ℕ} {labels counts : List ℕ} {s t : ℕ} {r : Answer} → PairCall n w labels counts s t r
-    → told r ≡ pairTold n w labels counts s t
-pair-numbers c =
-    c .post .1
-    ∙ (λ i. pairTold (c .frames i) (c .width i) (c .labels-lent i) (c .counts-lent i) (c .first i) (c .second i))
+    c .post ∙ (λ i. pairOf (c .frames i) (c .width i) (c .labels-lent i) (c .counts-lent i) (c .first i) (c .second i))
 
 -- any unrefused call of the build leaves rooms that meet demands 2 and 3
 pub build-demands : {n w k : ℕ} {S L O labels₀ counts₀ met₀ queue₀ : List ℕ} {entries : ℕ} {labels counts met queue : List ℕ}
@@ -165,8 +156,8 @@ pub calls-asked : {n w k : ℕ} {S L O labels counts : List ℕ} {s t : ℕ} {r 
     → PairCall n w labels counts s t r → s < n → t < n
     → (told r .number ≡ 0) × Least (ThroughOf (Link S L ones) (hubOf O) k s t) (countOf r)
 calls-asked {k} {S} {L} {O} {s} {t} d c p q = (
-  ap (λ (x : Told). x .number) (pair-numbers c) ∙ d .taken s t p q,
-  subst (Least (ThroughOf (Link S L ones) (hubOf O) k s t)) (sym (pair-out c)) (d .fewest s t p q),
+  ap (λ (x : Answer). told x .number) (pair-out c) ∙ d .taken s t p q,
+  subst (Least (ThroughOf (Link S L ones) (hubOf O) k s t)) (sym (ap countOf (pair-out c))) (d .fewest s t p q),
 )
 
 -- any index written, and read back with the same W into rooms of the right lengths, is the same index

@@ -5,6 +5,7 @@ use mathlib.Core.Bool.{true}
 use mathlib.Core.List.{List}
 use native.Mathlib.Omega.{arith}
 use lib.ListN.{length, getD}
+use Rattle.refusal.specs.declared.Verdict.{Verdict}
 use Rattle.refusal.specs.declared.Verdict.the-variants.{Fine}
 use Rattle.theory.specs.Links.{Block, Order, hubOf}
 use Rattle.theory.specs.Distance.{far, said}
@@ -15,7 +16,7 @@ use Rattle.theory.proofs.Rule.{rankAt, joinsAt}
 use Rattle.theory.proofs.Plain.{plain-rising, plain-places, plain-walks}
 use Rattle.rows.specs.Entry.{rankOf, joinsOf, decode}
 use Rattle.rows.specs.Meetings.{meetingOf}
-use Rattle.rows.specs.Pair.{pairTests, pairTold, toldBy}
+use Rattle.rows.specs.Pair.{pairTests, answered, pairOf, told}
 use Rattle.rows.specs.Rooms.{Rooms, rowAt, soundRow, rowsTest}
 use Rattle.rows.specs.declared.merge.Best.{Best}
 use Rattle.rows.proofs.Laws.{Sound, sound-row, length-decode, getD-decode}
@@ -34,17 +35,17 @@ pub record Held (n w k : ℕ) (S L O labels counts : List ℕ) : Type 0 where
   pub rows : (v : ℕ) → v < n → decode (rowAt w labels counts v) ≡ rowBy n S L O k v
 
 -- whatever it meets, a question whose tests are fine has number 0
-fine-told : (best : Best) → toldBy Fine best .number ≡ 0
-unfolding toldBy
+fine-told : (best : Best) → told (answered Fine best) .number ≡ 0
+unfolding told answered
 fine-told Best.Nowhere = refl
 fine-told (Best.Meet m) = refl
 
 pub told-fine : (n w : ℕ) (labels counts : List ℕ) (s t : ℕ) → pairTests n w labels counts s t ≡ Fine
-    → pairTold n w labels counts s t .number ≡ 0
-unfolding pairTold
+    → told (pairOf n w labels counts s t) .number ≡ 0
+unfolding pairOf
 told-fine n w labels counts s t e =
     let best : Best = meetingOf (rowAt w labels counts s) (rowAt w labels counts t) in
-    ap (λ v. toldBy v best .number) e ∙ fine-told best
+    ap (λ (v : Verdict). told (answered v best) .number) e ∙ fine-told best
 
 module _ {n w k : ℕ} {S L O labels counts : List ℕ} (h : Held n w k S L O labels counts) where
   pub held-length : (v : ℕ) → v < n → length (rowAt w labels counts v) ≡ getD counts v 0

@@ -31,8 +31,8 @@ use Rattle.build.specs.Build.{
   buildOf,
 }
 use Rattle.file.specs.Bits.{bitLen, num, bytesOf, byteLen, padLen, packed}
-use Rattle.file.specs.Layout.{headerFields, orderFields, entryFields, rowFields, rowsFields, fileFields, fileOf}
-use Rattle.file.specs.Writer.{indexSizes, indexLengths, writeTests, outTest, wrote, filled, writeOf}
+use Rattle.file.specs.Layout.{headerFields, orderFields, entryFields, rowFields, rowsFields, fileFields, fileOf, lengthsFit}
+use Rattle.file.specs.Writer.{indexSizes, writeTests, outTest, wrote, filled, writeOf}
 use Rattle.theorems.specs.Starred.{asked, chainTo, ring, threeTo, one, Starred}
 
 -- each of the four frames
@@ -52,7 +52,7 @@ unfolding chainTo ring threeTo one first some least table sum test _then_
     meetingsAt meetings goesBefore lesserOf leastFrom meetingOf pairTests answered pairOf
     labelsOf countsOf buildSizes buildRooms buildTests fullAt farFrame farAt stopAt walksTest afterWalks afterTests buildOf
     bitLen num bytesOf byteLen padLen packed headerFields orderFields entryFields rowFields rowsFields fileFields fileOf
-    indexSizes indexLengths writeTests outTest wrote filled writeOf
+    lengthsFit indexSizes writeTests outTest wrote filled writeOf
 starred =
     record {
       chain-order = refl;

@@ -1,4 +1,4 @@
--- Each arm gives what the definition gives for that answer, and the pair question promises the answer's numbers.
+-- Each arm gives what the definition gives for that answer.
 use mathlib.Core.Path.{sym, ap, _∙_}
 use borrow.Author.Needs.{needs}
 use Rattle.rows.specs.Pair.{told}
@@ -23,18 +23,18 @@ returns : tie.Need-returns
 unfolding pairOuts told
 returns c =
     sym (ap (λ (a : Answer). pairOuts (told a)) (c .before .sum .given .1))
-    ∙ ap pairOuts (c .before .before .before .pair .ensures .1)
+    ∙ ap (λ (a : Answer). pairOuts (told a)) (c .before .before .before .pair .ensures)
 
 returns-2 : tie.Need-returns-2
 unfolding pairOuts told
 returns-2 c =
-    sym (ap (λ (a : Answer). pairOuts (told a)) (c .enum-told .given .1)) ∙ ap pairOuts (c .before .before .pair .ensures .1)
+    sym (ap (λ (a : Answer). pairOuts (told a)) (c .enum-told .given .1)) ∙ ap (λ (a : Answer). pairOuts (told a)) (c .before .before .pair .ensures)
 
 returns-3 : tie.Need-returns-3
 unfolding pairOuts told
 returns-3 c =
     sym (ap (λ (a : Answer). pairOuts (told a)) (c .before .r .given .1))
-    ∙ ap pairOuts (c .before .before .before .pair .ensures .1)
+    ∙ ap (λ (a : Answer). pairOuts (told a)) (c .before .before .before .pair .ensures)
 
 pub seam-pair-spec : {M : Type 1} → statement M
 seam-pair-spec = tie.close (tie.spec pair-requires enum-known-sum enum-told enum-known-r returns returns-2 returns-3)

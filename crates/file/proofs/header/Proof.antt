@@ -17,7 +17,7 @@ closed-requires c κs = search needs
 
 returns : tie.Need-returns
 unfolding framesOf stopOf headerOf
-returns c = answered _ _ _ (c .closed .ensures ∙ opened-refused _ _ (version-short _ (c .before .if1 .taken)))
+returns c = answered (c .closed .ensures ∙ opened-refused _ _ (version-short _ (c .before .if1 .taken)))
 
 get-requires : tie.Need-get-requires
 unfolding byteLen
@@ -29,7 +29,7 @@ closed-requires-2 c κs = search needs
 returns-2 : tie.Need-returns-2
 unfolding framesOf stopOf headerOf
 returns-2 c =
-    answered _ _ _ (c .closed2 .ensures ∙ opened-refused _ _ (version-other _ (c .before .before .before .if1 .left) (λ e.
+    answered (c .closed2 .ensures ∙ opened-refused _ _ (version-other _ (c .before .before .before .if1 .left) (λ e.
     c .before .if2 .taken (c .before .before .get .ensures ∙ e))))
 
 -- the version is 1
@@ -42,7 +42,7 @@ closed-requires-3 c κs = search needs
 returns-3 : tie.Need-returns-3
 unfolding framesOf stopOf headerOf
 returns-3 c =
-    answered _ _ _
+    answered
     (c .closed3 .ensures ∙ opened-refused _ _ (frames-short _ (c .before .before .before .before .if1 .left) (version
     (c .before .before)) (c .before .if3 .taken)))
 
@@ -52,7 +52,7 @@ closed-requires-4 c κs = search needs
 returns-4 : tie.Need-returns-4
 unfolding framesOf stopOf headerOf
 returns-4 c =
-    answered _ _ _
+    answered
     (c .closed4 .ensures ∙ opened-refused _ _ (stop-short _ (c .before .before .if3 .left) (version
     (c .before .before .before)) (c .before .if4 .taken)))
 
@@ -79,7 +79,7 @@ closed-requires-5 c κs = search needs
 returns-5 : tie.Need-returns-5
 unfolding framesOf stopOf headerOf
 returns-5 c =
-    answered _ _ _
+    answered
     (c .closed5 .ensures
     ∙ opened-refused _ _
     (stop-over _ (c .before .before .before .before .if4 .left) (version
@@ -103,7 +103,7 @@ closed-requires-6 c κs = search needs
 returns-6 : tie.Need-returns-6
 unfolding framesOf stopOf headerOf
 returns-6 c =
-    answered _ _ _
+    answered
     (c .closed6 .ensures
     ∙ opened-refused _ _
     (spare-set _ (c .before .before .before .before .before .before .if4 .left) (version
@@ -113,7 +113,7 @@ returns-6 c =
 returns-7 : tie.Need-returns-7
 unfolding framesOf stopOf headerOf
 returns-7 c =
-    answered _ _ _
+    answered
     (ap₂ Opened.Index (ap (λ (x : ℕ). x + 1) (c .before .before .before .before .get2 .ensures))
     (c .before .before .before .get3 .ensures)
     ∙ opened-fine _ _

@@ -1,9 +1,16 @@
 -- `read`: a refused file leaves the rooms alone; a file whose tests are fine has all that the storing pass asks, and rooms
 -- filled to their ends are what the definition says.
-use mathlib.Core.Path.{sym, _∙_}
+use Prim.Native.Nat.{ℕ}
+use mathlib.Core.Path.{_≡_, sym, ap, _∙_}
+use mathlib.Core.List.{List}
 use borrow.Author.Needs.{needs}
+use denote.Ref.{now}
+use lib.ListN.{length}
+use Rattle.refusal.specs.declared.Verdict.{Verdict}
+use Rattle.file.specs.declared.Opened.{Opened}
+use Rattle.file.specs.Reader.{framesOf, stopOf, readTest, Outcome, outcome, told}
 use Rattle.file.proofs.Reader.{readable, stores-order, stores-rows, read-refused, read-fine}
-use Rattle.file.proofs.Heading.{answered, index-is, refused-is}
+use Rattle.file.proofs.Heading.{index-is, refused-is}
 use Rattle.file.proofs.read.Statement.{statement}
 use Rattle.file.proofs.read.Tie as tie
 
@@ -16,22 +23,32 @@ enum-known-opened c = search needs
 enum-told : tie.Need-enum-told
 enum-told c = search needs
 
+-- the outcome, and the numbers of its answer
+said : {a : Opened} {o l c : List ℕ} {out : Outcome} → outcome a o l c ≡ out → (outcome a o l c ≡ out) × (told a ≡ told (out .answer))
+said e = (e, ap (λ (out : Outcome). told (out .answer)) e)
+
 returns : tie.Need-returns
 returns c =
-    let e = c .before .before .file .ensures in
     let g = c .enum-told .given .1 in
-    (read-refused _ _ _ _ _ g (refused-is _ _ _ (sym g ∙ e)), answered _ _ _ e .1)
+    said (read-refused _ _ _ _ _ g (refused-is _ _ _ (sym g ∙ c .before .before .file .ensures)))
+
+-- the tests are fine, and these are the file's n and k
+found : (c : tie.After-known-told) →
+    let a = c .before .before .before .before .before .before .before .before .args in
+    let s = a .bytes .now in
+    let g = c .before .opened .given .0 in
+    (readTest s (a .w) (length (now (a .order))) (length (now (a .labels))) (length (now (a .counts))) ≡ Verdict.Fine)
+    × (g .0 ≡ framesOf s) × (g .1 .0 ≡ stopOf s)
+found c = index-is _ _ _ (sym (c .before .opened .given .1) ∙ c .before .before .before .file .ensures)
 
 order-requires : tie.Need-order-requires
 order-requires c κs =
-    let (e, p, q) = index-is _ _ _ (sym (c .before .before .opened .given .1) ∙
-    c .before .before .before .before .file .ensures) in
+    let (e, p, q) = found (c .before) in
     stores-order (readable _ _ _ _ _ e) p
 
 rows-requires : tie.Need-rows-requires
 rows-requires c κs =
-    let (e, p, q) = index-is _ _ _ (sym (c .before .before .before .before .before .before .before .opened .given .1) ∙
-    c .before .before .before .before .before .before .before .before .before .file .ensures) in
+    let (e, p, q) = found (c .before .before .before .before .before .before) in
     stores-rows (readable _ _ _ _ _ e) p
 
 same-length : tie.Need-same-length
@@ -45,16 +62,10 @@ same-length-3 c = search needs
 
 returns-2 : tie.Need-returns-2
 returns-2 c =
-    let at = sym
-    (c .before .before .before .before .before .before .before .before .before .before .before .before .opened .given .1) ∙
-    c .before .before .before .before .before .before .before .before .before .before .before .before .before .before .file .ensures
-    in
-    let (e, p, q) = index-is _ _ _ at in (
-      read-fine _ _ _ _ _ e p q (c .before .before .before .before .before .before .before .before .before .order .ensures)
-          (c .before .before .before .before .rows .ensures .0) (c .before .before .before .before .rows .ensures .1),
-      answered _
-          _ _ at .1,
-    )
+    let r = c .before .before .before .before in
+    let o = r .before .before .before .before .before in
+    let (e, p, q) = found (o .before .before) in
+    said (read-fine _ _ _ _ _ e p q (o .order .ensures) (r .rows .ensures .0) (r .rows .ensures .1))
 
 pub read-spec : {M : Type 1} → statement M
 read-spec =

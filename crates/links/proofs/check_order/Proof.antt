@@ -1,45 +1,42 @@
 -- `links::check_order` meets its contract: at each return the tests that led there say which test of `checkOrder` decides.
 use mathlib.Core.Path.{sym, _∙_}
-use native.Mathlib.Omega.{arith}
 use borrow.Author.Needs.{needs}
-use Rattle.links.proofs.Links.{no-frames, many-frames}
+use Rattle.links.proofs.Links.{frames-held}
 use Rattle.links.proofs.Order.{order-alone, order-unfit, order-length}
 use Rattle.links.proofs.check_order.Statement.{statement}
 use Rattle.links.proofs.check_order.Tie as tie
 
+frames-fit-requires : tie.Need-frames-fit-requires
+frames-fit-requires c κs = search needs
+
+each-once-requires : tie.Need-each-once-requires
+each-once-requires c κs = (frames-held _ (sym (c .before .before .frames-fit .ensures) ∙ c .before .if1 .taken) .1, c .if2 .taken)
+
+returns : tie.Need-returns
+returns c =
+    let (one, most) = frames-held _ (sym (c .before .before .before .frames-fit .ensures) ∙ c .before .before .if1 .taken) in
+    c .each-once .ensures ∙ sym (order-alone _ _ one most (c .before .if2 .taken))
+
 refused-requires : tie.Need-refused-requires
 refused-requires c κs = search needs
 
-returns : tie.Need-returns
-returns c = c .refused .ensures ∙ sym (order-unfit _ _ (no-frames _ (c .before .if1 .taken)))
+returns-2 : tie.Need-returns-2
+returns-2 c = c .refused .ensures ∙ sym (order-length _ _ (sym (c .before .before .before .frames-fit .ensures) ∙ c .before .before .if1 .taken) (c .before .if2 .left))
 
 refused-requires-2 : tie.Need-refused-requires-2
 refused-requires-2 c κs = search needs
 
-returns-2 : tie.Need-returns-2
-returns-2 c = c .refused2 .ensures ∙ sym (order-unfit _ _ (many-frames _ (c .before .if2 .taken)))
-
-refused-requires-3 : tie.Need-refused-requires-3
-refused-requires-3 c κs = search needs
-
 returns-3 : tie.Need-returns-3
-returns-3 c = c .refused3 .ensures ∙ sym (order-length _ _ (omega arith) (omega arith) (c .before .if3 .taken))
-
-each-once-requires : tie.Need-each-once-requires
-each-once-requires c κs = search needs
-
-returns-4 : tie.Need-returns-4
-returns-4 c = c .each-once .ensures ∙ sym (order-alone _ _ (omega arith) (omega arith) (c .before .if3 .left))
+returns-3 c = c .refused2 .ensures ∙ sym (order-unfit _ _ (sym (c .before .before .frames-fit .ensures) ∙ c .before .if1 .left))
 
 pub check-order-spec : {M : Type 1} → statement M
 check-order-spec =
     tie.close
     (tie.spec
-    refused-requires
-    returns
-    refused-requires-2
-    returns-2
-    refused-requires-3
-    returns-3
+    frames-fit-requires
     each-once-requires
-    returns-4)
+    returns
+    refused-requires
+    returns-2
+    refused-requires-2
+    returns-3)

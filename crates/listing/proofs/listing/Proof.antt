@@ -22,9 +22,9 @@ open-requires c κs = search needs
 
 returns : tie.Need-returns
 returns c =
-    let inside : c .before .before .before .«open» .result ≤ length (c .before .before .before .«open» .last .1 .1 .1 .1 .0) =
-    omega (arith, c .before .before .before .«open» .ensures .1, c .before .before .before .«open» .ensures .0 .long) in
-    ((inside, sym (length-take-le _ _ inside)), c .before .before .before .«open» .ensures .0 .holds)
+    let o = c .before .before .before .«open» in
+    let inside : o .result ≤ length (o .last .1 .1 .1 .1 .0) = omega (arith, o .ensures .1, o .ensures .0 .long) in
+    ((inside, sym (length-take-le _ _ inside)), o .ensures .0 .holds)
 
 pub listing-spec : {M : Type 1} → statement M
 listing-spec =

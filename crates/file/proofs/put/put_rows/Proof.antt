@@ -9,7 +9,6 @@ use denote.Ref.{now}
 use native.Mathlib.Numerals.{add-one}
 use native.Mathlib.Nat.{sub-zero}
 use Rattle.file.specs.Layout.{rowFields, rowsFields}
-use Rattle.file.specs.Pen.{RowsIn}
 use Rattle.file.proofs.Pen.{Left, left-start, left-ready, left-step, left-end}
 use Rattle.file.proofs.put.put_rows.Statement.{statement}
 use Rattle.file.proofs.put.put_rows.Tie as tie
@@ -36,11 +35,10 @@ loop-holds c = (omega arith, rw sub-zero (left-start (c .before .before .before 
 put-row-requires : tie.Need-put-row-requires Inv-loop μ-loop
 put-row-requires c κs =
     let a = c .before .before .before .before .before .before .args in
-    let r : RowsIn (a .n) (a .w) (now (a .labels)) (now (a .counts)) = c .before .before .before .before .before .before .pre .1 in
     let l = c .before .before .loop in
     let t : l .v < a .n = c .before .loop-test .taken in (
       left-ready (l .inv .1) _ _ (next (a .w) (now (a .labels)) (now (a .counts)) (a .n) (l .v) t),
-      record { frame = omega (arith, r .frames); inside = r .inside (l .v) t },
+      c .before .before .before .before .before .before .pre .1 (l .v) t,
     )
 
 add-v : tie.Need-add-v Inv-loop μ-loop

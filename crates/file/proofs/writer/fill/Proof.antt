@@ -17,7 +17,7 @@ use Rattle.file.specs.Writer.{Fit}
 use Rattle.file.specs.declared.put.Pen.{Pen}
 use Rattle.file.proofs.Bits.{val-bytes}
 use Rattle.file.proofs.Packed.{packed-length, pad-len}
-use Rattle.file.proofs.Fit.{fit-legal, fit-inside}
+use Rattle.file.proofs.Fit.{fit-legal, fit-lies}
 use Rattle.file.proofs.Pen.{Left, left-start, left-ready, left-step, left-end}
 use Rattle.file.proofs.writer.fill.Statement.{statement}
 use Rattle.file.proofs.writer.fill.Tie as tie
@@ -87,7 +87,7 @@ put-rows-requires : tie.Need-put-rows-requires
 put-rows-requires c κs =
     let s = c .before .before .before .before .before .before .before .before .before .before .before .before .before in
     let a = s .args in
-    (ordered (c .before .before .before) .ready, fit-inside (a .n) (a .k) (a .w) (now (a .order)) (now (a .labels)) (now (a .counts)) (s .pre .0))
+    (ordered (c .before .before .before) .ready, fit-lies (a .n) (a .k) (a .w) (now (a .order)) (now (a .labels)) (now (a .counts)) (s .pre .0))
 
 close-requires : tie.Need-close-requires
 close-requires c κs = finished (c .before .before .before) .ready

@@ -1,47 +1,21 @@
--- The size test, one bound after the other.
-use borrow.Author.Tests.{le-leb, lt-leb}
-use Rattle.rows.specs.Rooms.{sizesFit}
+-- The size test: n and W, then k.
+use mathlib.Core.Path.{sym, _∙_}
+use borrow.Author.Needs.{needs}
+use borrow.Author.Tests.{not-true, not-false}
 use Rattle.file.specs.Writer.{indexSizes}
 use Rattle.file.proofs.writer.sizes_fit.Statement.{statement}
 use Rattle.file.proofs.writer.sizes_fit.Tie as tie
 
+sizes-fit-requires : tie.Need-sizes-fit-requires
+sizes-fit-requires c κs = search needs
+
 returns : tie.Need-returns
-unfolding indexSizes sizesFit
-returns c = simp (lt-leb 1 (c .before .args .n) (c .if1 .taken))
+unfolding indexSizes
+returns c = rw (sym (c .before .sizes-fit .ensures) ∙ not-true _ (c .if1 .taken))
 
 returns-2 : tie.Need-returns-2
-unfolding indexSizes sizesFit
-returns-2 c =
-    let a = c .before .before .args in
-    simp (le-leb 1 (a .n) (c .before .if1 .left), lt-leb (a .n) 4096 (c .if2 .taken))
-
-returns-3 : tie.Need-returns-3
-unfolding indexSizes sizesFit
-returns-3 c =
-    let a = c .before .before .before .args in
-    simp (le-leb 1 (a .n) (c .before .before .if1 .left), le-leb (a .n) 4096 (c .before .if2 .left), lt-leb 1 (a .w) (c .if3 .taken))
-
-returns-4 : tie.Need-returns-4
-unfolding indexSizes sizesFit
-returns-4 c =
-    let a = c .before .before .before .before .args in
-    simp (
-      le-leb 1 (a .n) (c .before .before .before .if1 .left),
-      le-leb (a .n) 4096 (c .before .before .if2 .left),
-      le-leb 1 (a .w) (c .before .if3 .left),
-      lt-leb (a .w) 256 (c .if4 .taken),
-    )
-
-returns-5 : tie.Need-returns-5
-unfolding indexSizes sizesFit
-returns-5 c =
-    let a = c .before .before .before .before .args in
-    simp (
-      le-leb 1 (a .n) (c .before .before .before .if1 .left),
-      le-leb (a .n) 4096 (c .before .before .if2 .left),
-      le-leb 1 (a .w) (c .before .if3 .left),
-      le-leb (a .w) 256 (c .if4 .left),
-    )
+unfolding indexSizes
+returns-2 c = rw (sym (c .before .sizes-fit .ensures) ∙ not-false _ (c .if1 .left))
 
 pub sizes-fit-spec : {M : Type 1} → statement M
-sizes-fit-spec = tie.close (tie.spec returns returns-2 returns-3 returns-4 returns-5)
+sizes-fit-spec = tie.close (tie.spec sizes-fit-requires returns returns-2)

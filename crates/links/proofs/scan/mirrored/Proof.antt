@@ -1,26 +1,17 @@
--- `links::scan::mirrored` meets its contract. A guess inside w's list that holds v shows that the list holds v, whatever
--- the cursor was; else the search of the list decides.
-use Prim.Native.Nat.{_+_}
+-- `links::scan::mirrored` meets its contract. A guess inside w's list that holds v shows that the list holds v; else the
+-- search of the list decides. The cursor is moved to a place behind one of the list.
 use mathlib.Core.Path.{sym}
 use native.Mathlib.Omega.{arith}
 use borrow.Author.Needs.{needs}
 use lib.ListN.{getD}
 use Rattle.basics.proofs.Laws.{found-low}
 use Rattle.links.proofs.Links.{holds-at, holds-found, holds-not}
+use Rattle.links.proofs.Lists.{cursors-on}
 use Rattle.links.proofs.scan.mirrored.Statement.{statement}
 use Rattle.links.proofs.scan.mirrored.Tie as tie
 
 add-next : tie.Need-add-next
 add-next c = search needs
-
-mul-from : tie.Need-mul-from
-mul-from c = search needs
-
-shared-slice-read-from : tie.Need-shared-slice-read-from
-shared-slice-read-from c = search needs
-
-cast-from : tie.Need-cast-from
-cast-from c = omega (arith, c .shared-slice-known3 .given (c .before .before .before .before .args .w))
 
 mul-end : tie.Need-mul-end
 mul-end c = search needs
@@ -29,34 +20,31 @@ shared-slice-read-end : tie.Need-shared-slice-read-end
 shared-slice-read-end c = search needs
 
 cast-end : tie.Need-cast-end
-cast-end c = omega (arith, c .shared-slice-known4 .given (c .before .before .before .before .before .args .w + 1))
+cast-end c = search needs
 
-mul-passed : tie.Need-mul-passed
-mul-passed c = search needs
+mul-guess : tie.Need-mul-guess
+mul-guess c = search needs
 
-slice-read-passed : tie.Need-slice-read-passed
-slice-read-passed c = search needs
+slice-read-guess : tie.Need-slice-read-guess
+slice-read-guess c = search needs
 
-cast-passed : tie.Need-cast-passed
-cast-passed c = omega (arith, c .slice-known2 .given (c .before .before .before .before .before .before .args .w))
-
-add-guess : tie.Need-add-guess
-add-guess c = omega (arith, c .slice-known2 .given (c .before .before .before .before .before .before .args .w))
+cast-guess : tie.Need-cast-guess
+cast-guess c = omega (arith, c .slice-known2 .given (c .before .before .before .before .before .args .w))
 
 mul-u : tie.Need-mul-u
-mul-u c = omega arith
+mul-u c = search needs
 
 shared-slice-read-u : tie.Need-shared-slice-read-u
-shared-slice-read-u c = omega arith
+shared-slice-read-u c = search needs
 
 cast-u : tie.Need-cast-u
-cast-u c = omega (arith, c .shared-slice-known5 .given (getD (c .before .before .before .before .before .before .before .before .args .starts .now) (c .before .before .before .before .before .before .before .before .args .w) 0 + getD (c .before .before .before .before .before .before .before .before .args .cursors .now) (c .before .before .before .before .before .before .before .before .args .w) 0))
+cast-u c = omega (arith, c .shared-slice-known4 .given (getD (c .before .before .before .before .before .before .before .args .cursors .now) (c .before .before .before .before .before .before .before .args .w) 0))
 
 add-cursors : tie.Need-add-cursors
-add-cursors c = omega (arith, c .before .before .before .before .before .before .before .before .before .pre .0)
+add-cursors c = search needs
 
 cast-cursors : tie.Need-cast-cursors
-cast-cursors c = omega (arith, c .before .before .before .before .before .before .before .before .before .pre .0)
+cast-cursors c = search needs
 
 mul-cursors : tie.Need-mul-cursors
 mul-cursors c = search needs
@@ -68,19 +56,28 @@ same-length : tie.Need-same-length
 same-length c = search needs
 
 returns : tie.Need-returns
-returns c = sym (holds-at _ _ _ _ _ (omega arith) (c .before .before .if1 .taken) (c .if2 .taken))
+returns c =
+    let start = c .before .before .before .before .before .before .before .before .pre in
+    let low = start .1 .from _ (start .0 .frame) in
+    (sym (holds-at _ _ _ _ _ low (c .before .before .if1 .taken) (c .if2 .taken)), cursors-on (start .1) _ _ (start .0 .few) (omega arith))
+
+mul-from : tie.Need-mul-from
+mul-from c = search needs
+
+shared-slice-read-from : tie.Need-shared-slice-read-from
+shared-slice-read-from c = search needs
+
+cast-from : tie.Need-cast-from
+cast-from c = search needs
 
 find-requires : tie.Need-find-requires
-find-requires c κs = let list = c .before .before .before .before .before .before .before .pre .0 in (list .rise, list .within)
-
-sub-cursors : tie.Need-sub-cursors
-sub-cursors c = found-low _ _ _ (c .before .find .ensures)
+find-requires c κs = search needs
 
 add-cursors-2 : tie.Need-add-cursors-2
-add-cursors-2 c = omega (arith, c .before .before .before .before .before .before .before .before .before .pre .0)
+add-cursors-2 c = search needs
 
 cast-cursors-2 : tie.Need-cast-cursors-2
-cast-cursors-2 c = omega (arith, c .before .before .before .before .before .before .before .before .before .pre .0)
+cast-cursors-2 c = search needs
 
 mul-cursors-2 : tie.Need-mul-cursors-2
 mul-cursors-2 c = search needs
@@ -92,26 +89,27 @@ same-length-2 : tie.Need-same-length-2
 same-length-2 c = search needs
 
 returns-2 : tie.Need-returns-2
-returns-2 c = sym (holds-found _ _ _ _ _ (c .before .before .before .before .before .before .before .before .before .pre .0 .rise) (c .before .find .ensures) (c .if3 .taken))
+returns-2 c =
+    let start = c .before .before .before .before .before .before .before .before .before .pre in (
+      sym (holds-found _ _ _ _ _ (start .0 .rise) (c .before .find .ensures) (c .if3 .taken)),
+      cursors-on (start .1) _ _ (start .0 .few) (omega (arith, found-low _ _ _ (c .before .find .ensures))),
+    )
 
 returns-3 : tie.Need-returns-3
-returns-3 c = sym (holds-not _ _ _ _ _ (c .before .before .before .before .before .before .before .before .before .pre .0 .rise) (c .before .find .ensures) (c .if3 .left))
+returns-3 c =
+    let start = c .before .before .before .before .before .before .before .before .before .pre in (sym (holds-not _ _ _ _ _ (start .0 .rise) (c .before .find .ensures) (c .if3 .left)), start .1)
 
 pub mirrored-spec : {M : Type 1} → statement M
 mirrored-spec =
     tie.close
     (tie.spec
     add-next
-    mul-from
-    shared-slice-read-from
-    cast-from
     mul-end
     shared-slice-read-end
     cast-end
-    mul-passed
-    slice-read-passed
-    cast-passed
-    add-guess
+    mul-guess
+    slice-read-guess
+    cast-guess
     mul-u
     shared-slice-read-u
     cast-u
@@ -121,8 +119,10 @@ mirrored-spec =
     slice-write-cursors
     same-length
     returns
+    mul-from
+    shared-slice-read-from
+    cast-from
     find-requires
-    sub-cursors
     add-cursors-2
     cast-cursors-2
     mul-cursors-2

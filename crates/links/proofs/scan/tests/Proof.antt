@@ -9,7 +9,7 @@ starts-right-requires : tie.Need-starts-right-requires
 starts-right-requires c κs = search needs
 
 first-faulty-requires : tie.Need-first-faulty-requires
-first-faulty-requires c κs = starts-kept _ _ _ (sym (c .before .starts-right .ensures) ∙ c .if1 .taken) (c .before .before .before .before .pre .0) (c .before .before .before .before .pre .1) (c .before .before .before .before .pre .2)
+first-faulty-requires c κs = starts-kept _ _ _ (sym (c .before .starts-right .ensures) ∙ c .if1 .taken) (c .before .before .before .before .pre)
 
 returns : tie.Need-returns
 returns c = sym (tests-fine _ _ _ _ (sym (c .before .before .before .starts-right .ensures) ∙ c .before .before .if1 .taken) (c .before .first-faulty .ensures) (c .if2 .taken))

@@ -1,15 +1,12 @@
 -- The header, then the test on the frames, then the rooms are cut to that number of frames and the reader decides.
-use Prim.Native.Nat.{ℕ, _*_}
 use native.Mathlib.Omega.{arith}
-use mathlib.Core.Path.{_≡_, sym, ap, subst, _∙_}
-use mathlib.Core.List.{List}
-use lib.ListN.{length, take}
+use mathlib.Core.Path.{sym, ap, _∙_}
 use lib.Seq.{length-take-le}
 use borrow.Author.Needs.{needs}
-use Rattle.file.specs.Reader.{readTest}
-use Rattle.listing.specs.Text.{Put}
-use Rattle.listing.specs.Lines.{WIDTH, refusedText}
-use Rattle.listing.specs.Listing.{numberOf, readText}
+use Rattle.file.specs.declared.Opened.{Opened}
+use Rattle.file.specs.Reader.{told}
+use Rattle.listing.specs.Lines.{refusedText}
+use Rattle.listing.proofs.TextLaws.{put-as}
 use Rattle.listing.proofs.IndexLaws.{header-refused, over-frames, within-frames, cut-rooms, cut-text}
 use Rattle.listing.proofs.index.open.Statement.{statement}
 use Rattle.listing.proofs.index.open.Tie as tie
@@ -33,15 +30,16 @@ same-length : tie.Need-same-length
 same-length c = search needs
 
 returns : tie.Need-returns
-unfolding numberOf
+unfolding told
 returns c =
-    let start : _ = c .before .before .before .before .before .before .before .before .before .before .before .before .before in
-    let answer : _ = c .before .before .before .before .before .enum-told .given .1 in (
-      subst (λ (t : List ℕ). Put (start .args .out .now) 0 t (c .before .before .refused .last .0) (c .before .before .refused .result))
-          (ap refusedText (c .before .before .before .number-of .ensures ∙ ap numberOf answer)
-          ∙ header-refused (start .args .bytes .now) (c .before .before .before .before .before .before .before .header .ensures .0) answer)
-          (c .before .before .refused .ensures .0),
-      omega (arith, c .before .before .refused .ensures .1),
+    let r = c .before .before .refused in
+    let m = c .before .before .before in
+    let answer = m .before .before .enum-told .given .1 in
+    let call = m .before .before .before .before .header in (
+      put-as
+          (ap refusedText (m .number-of .ensures ∙ ap (λ (a : Opened). told a .number) answer) ∙ header-refused _ (call .ensures .0) answer)
+          (r .ensures .0),
+      omega (arith, r .ensures .1),
     )
 
 refused-requires-2 : tie.Need-refused-requires-2
@@ -52,12 +50,10 @@ same-length-2 c = search needs
 
 returns-2 : tie.Need-returns-2
 returns-2 c =
-    let start : _ = c .before .before .before .before .before .before .before .before .before .before .before .before .before .before in (
-      subst (λ (t : List ℕ). Put (start .args .out .now) 0 t (c .before .before .refused2 .last .0) (c .before .before .refused2 .result))
-          (over-frames (start .args .bytes .now) (c .before .before .before .before .before .before .before .before .header .ensures .0) (c .before .before .before .before .before .before .opened .given .1) (c .before .before .before .before .if1 .taken))
-          (c .before .before .refused2 .ensures .0),
-      omega (arith, c .before .before .refused2 .ensures .1),
-    )
+    let r = c .before .before .refused2 in
+    let t = c .before .before .before .before in
+    let o = t .before .before in
+    (put-as (over-frames _ (o .before .before .header .ensures .0) (o .opened .given .1) (t .if1 .taken)) (r .ensures .0), omega (arith, r .ensures .1))
 
 mul-places : tie.Need-mul-places
 mul-places c = search needs
@@ -82,10 +78,10 @@ slice-aggregate-read-3 c = sym (length-take-le _ _ (search needs))
 
 read-requires : tie.Need-read-requires
 read-requires c κs =
-    let start : _ = c .before .before .before .before .before .before .before .before .before .before .before .before .before .before in (
-      cut-rooms (c .before .before .before .before .before .before .opened .given .0 .0) (start .args .order .now) (start .args .labels .now) (start .args .counts .now) (c .before .before .before .before .if1 .left) (start .pre .0 .0) (start .pre .0 .1) (start .pre .0 .2),
-      start .pre .1,
-    )
+    let t = c .before .before .before .before in
+    let s = t .before .before .before .before .before .before .before .before .before .before in
+    let (o, l, n) = s .pre .0 in
+    (cut-rooms _ _ _ _ (t .if1 .left) o l n, s .pre .1)
 
 same-length-3 : tie.Need-same-length-3
 same-length-3 c = search needs
@@ -101,13 +97,15 @@ same-length-6 c = search needs
 
 returns-3 : tie.Need-returns-3
 returns-3 c =
-    let start : _ = c .before .before .before .before .before .before .before .before .before .before .before .before .before .before .before .before .before .before .before .before .before .before .before in
-    let most : _ = c .before .before .before .before .before .before .before .before .before .before .before .before .before .if1 .left in (
-      subst (λ (t : List ℕ). Put (start .args .out .now) 0 t (c .before .before .before .before .before .before .before .before .read .last .1 .1 .1 .1 .0) (c .before .before .before .before .before .before .before .before .read .result))
-          (cut-text (c .before .before .before .before .before .before .before .before .before .before .before .before .before .before .before .opened .given .0 .0) (start .args .order .now) (start .args .labels .now) (start .args .counts .now) most (start .pre .0 .0) (start .pre .0 .1) (start .pre .0 .2) (start .args .bytes .now)
-          ∙ within-frames (start .args .bytes .now) (c .before .before .before .before .before .before .before .before .before .before .before .before .before .before .before .before .before .header .ensures .0) (c .before .before .before .before .before .before .before .before .before .before .before .before .before .before .before .opened .given .1) most)
-          (c .before .before .before .before .before .before .before .before .read .ensures .0),
-      c .before .before .before .before .before .before .before .before .read .ensures .1,
+    let r = c .before .before .before .before .before .before .before .before in
+    let t = r .before .before .before .before .before in
+    let o = t .before .before in
+    let s = o .before .before .before .before .before .before .before .before in
+    let (p, l, n) = s .pre .0 in (
+      put-as
+          (cut-text _ _ _ _ (t .if1 .left) p l n _ ∙ within-frames _ (o .before .before .header .ensures .0) (o .opened .given .1) (t .if1 .left))
+          (r .read .ensures .0),
+      r .read .ensures .1,
     )
 
 pub open-spec : {M : Type 1} → statement M

@@ -1,12 +1,11 @@
 -- The reader's outcome decides: a refusal is told by its number, an index is shown from the rooms that the reader filled.
-use Prim.Native.Nat.{ℕ}
 use native.Mathlib.Omega.{arith}
-use mathlib.Core.Path.{sym, ap, subst, _∙_}
-use mathlib.Core.List.{List}
+use mathlib.Core.Path.{ap, _∙_}
 use borrow.Author.Needs.{needs}
-use Rattle.listing.specs.Text.{Put}
+use Rattle.file.specs.declared.Opened.{Opened}
+use Rattle.file.specs.Reader.{told}
 use Rattle.listing.specs.Lines.{refusedText}
-use Rattle.listing.specs.Listing.{numberOf}
+use Rattle.listing.proofs.TextLaws.{put-as}
 use Rattle.listing.proofs.IndexLaws.{read-index, read-refused}
 use Rattle.listing.proofs.index.read.Statement.{statement}
 use Rattle.listing.proofs.index.read.Tie as tie
@@ -39,15 +38,16 @@ same-length-4 : tie.Need-same-length-4
 same-length-4 c = search needs
 
 returns : tie.Need-returns
-unfolding numberOf
+unfolding told
 returns c =
-    let start : _ = c .before .before .before .before .before .before .before .before .before .before .before .before .before .before .before .before .before .before .before .before .before .before in
-    let answer : _ = c .before .before .before .before .before .enum-told .given .1 in (
-      subst (λ (t : List ℕ). Put (start .args .out .now) 0 t (c .before .before .refused .last .0) (c .before .before .refused .result))
-          (ap refusedText (c .before .before .before .number-of .ensures ∙ ap numberOf answer)
-          ∙ read-refused (start .args .bytes .now) (start .args .order .now) (start .args .labels .now) (start .args .counts .now) (c .before .before .before .before .before .before .before .before .before .before .before .before .before .read .ensures .0) answer)
-          (c .before .before .refused .ensures .0),
-      omega (arith, c .before .before .refused .ensures .1),
+    let r = c .before .before .refused in
+    let m = c .before .before .before in
+    let answer = m .before .before .enum-told .given .1 in
+    let call = m .before .before .before .before .before .before .before .before .before .before .read in (
+      put-as
+          (ap refusedText (m .number-of .ensures ∙ ap (λ (a : Opened). told a .number) answer) ∙ read-refused _ _ _ _ (call .ensures .0) answer)
+          (r .ensures .0),
+      omega (arith, r .ensures .1),
     )
 
 show-requires : tie.Need-show-requires
@@ -67,12 +67,10 @@ same-length-8 c = search needs
 
 returns-2 : tie.Need-returns-2
 returns-2 c =
-    let start : _ = c .before .before .before .before .before .before .before .before .before .before .before .before .before .before .before .before .before .before .before .before .before .before .before .before .before in (
-      subst (λ (t : List ℕ). Put (start .args .out .now) 0 t (c .before .before .show .last .1 .1 .1 .1 .1 .0) (c .before .before .show .result))
-          (read-index (start .args .bytes .now) (start .args .order .now) (start .args .labels .now) (start .args .counts .now) (c .before .before .before .before .before .before .before .before .before .before .before .before .before .before .before .before .read .ensures .0) (c .before .before .before .before .before .before .before .before .opened .given .1))
-          (c .before .before .show .ensures .0),
-      c .before .before .show .ensures .1,
-    )
+    let s = c .before .before .show in
+    let o = c .before .before .before .before .before .before .before .before in
+    let call = o .before .before .before .before .before .before .before .before .read in
+    (put-as (read-index _ _ _ _ (call .ensures .0) (o .opened .given .1)) (s .ensures .0), s .ensures .1)
 
 pub read-spec : {M : Type 1} → statement M
 read-spec =

@@ -1,13 +1,14 @@
 -- An answered spread says that every row is sound, so that the lines can be put behind the first line.
 use Prim.Native.Nat.{ℕ}
 use native.Mathlib.Omega.{arith}
-use mathlib.Core.Path.{sym, ap, subst, _∙_}
-use mathlib.Core.List.{List, _++_}
+use mathlib.Core.Path.{_≡_, sym, ap, _∙_}
+use mathlib.Core.List.{_++_}
 use lib.ListN.{length}
 use borrow.Author.Needs.{needs}
-use Rattle.listing.specs.Text.{Put}
+use Rattle.rows.specs.declared.spread.SpreadAnswer.{SpreadAnswer}
+use Rattle.rows.specs.Spread.{spreadOf}
 use Rattle.listing.specs.Lines.{WIDTH, headText, linesText}
-use Rattle.listing.proofs.TextLaws.{put-more}
+use Rattle.listing.proofs.TextLaws.{put-more, put-as}
 use Rattle.listing.proofs.IndexLaws.{shown-by, text-shown, text-refused}
 use Rattle.listing.proofs.index.show.Statement.{statement}
 use Rattle.listing.proofs.index.show.Tie as tie
@@ -29,12 +30,9 @@ same-length c = search needs
 
 returns : tie.Need-returns
 returns c =
-    let start : _ = c .before .before .before .before .before .before .before .before .before .before .before in (
-      subst (λ (t : List ℕ). Put (start .args .out .now) 0 t (c .before .before .refused .last .0) (c .before .before .refused .result))
-          (text-refused (start .args .n) (start .args .k) (start .args .order .now) (start .args .labels .now) (start .args .counts .now) (sym (c .before .before .before .before .before .before .spread .ensures) ∙ c .before .before .before .before .enum-told .given .1))
-          (c .before .before .refused .ensures .0),
-      omega (arith, c .before .before .refused .ensures .1),
-    )
+    let r = c .before .before .refused in
+    let told = c .before .before .before .before in
+    (put-as (text-refused _ _ _ _ _ (sym (told .before .before .spread .ensures) ∙ told .enum-told .given .1)) (r .ensures .0), omega (arith, r .ensures .1))
 
 total-requires : tie.Need-total-requires
 total-requires c κs = search needs
@@ -42,23 +40,34 @@ total-requires c κs = search needs
 head-requires : tie.Need-head-requires
 head-requires c κs = search needs
 
+-- the spread was answered
+spread-is : (c : tie.After-known-told) →
+    let a = c .before .before .before .before .before .before .before .before .args in
+    spreadOf (a .n) WIDTH (a .labels .now) (a .counts .now) ≡ SpreadAnswer.Spread (c .before .answer .given .0 .0)
+spread-is c = sym (c .before .before .before .spread .ensures) ∙ c .before .answer .given .1
+
 lines-requires : tie.Need-lines-requires
-lines-requires c κs = (
-  shown-by (c .before .before .before .before .before .before .before .before .before .before .before .before .before .before .args .n) (c .before .before .before .before .before .before .before .answer .given .0 .0) (sym (c .before .before .before .before .before .before .before .before .before .spread .ensures) ∙ c .before .before .before .before .before .before .before .answer .given .1) (c .before .before .before .before .before .before .before .before .before .before .before .before .before .before .pre .0),
-  omega (arith, c .before .before .before .head .ensures .1, c .before .before .before .head .ensures .0 .long, c .before .before .before .before .before .before .before .before .before .before .before .before .before .before .pre .0 .frames, c .before .before .before .before .before .before .before .before .before .before .before .before .before .before .pre .1),
-)
+lines-requires c κs =
+    let h = c .before .before .before in
+    let k = h .before .before .before in
+    let s = k .before .before .before .before .before .before .before .before in
+    (shown-by _ _ (spread-is k) (s .pre .0), omega (arith, h .head .ensures .1, h .head .ensures .0 .long, s .pre .0 .frames, s .pre .1))
 
 same-length-2 : tie.Need-same-length-2
 same-length-2 c = search needs
 
 returns-2 : tie.Need-returns-2
 returns-2 c =
-    let start : _ = c .before .before .before .before .before .before .before .before .before .before .before .before .before .before .before .before .before in (
-      subst (λ (t : List ℕ). Put (start .args .out .now) 0 t (c .before .before .lines .last .0) (c .before .before .lines .result))
-          (ap (λ (m : ℕ). headText (start .args .n) (start .args .k) m (c .before .before .before .before .before .before .before .before .before .before .answer .given .0 .0) ++ linesText WIDTH (start .args .order .now) (start .args .labels .now) (start .args .counts .now) 0 (length (start .args .counts .now))) (c .before .before .before .before .before .before .before .before .total .ensures)
-          ∙ text-shown (start .args .n) (start .args .k) (start .args .order .now) (start .args .labels .now) (start .args .counts .now) (sym (c .before .before .before .before .before .before .before .before .before .before .before .before .spread .ensures) ∙ c .before .before .before .before .before .before .before .before .before .before .answer .given .1))
-          (put-more (c .before .before .before .before .before .before .head .ensures .0) (c .before .before .lines .ensures .0)),
-      omega (arith, c .before .before .lines .ensures .1, c .before .before .before .before .before .before .head .ensures .1, start .pre .0 .frames),
+    let l = c .before .before .lines in
+    let h = c .before .before .before .before .before .before in
+    let k = h .before .before .before in
+    let s = k .before .before .before .before .before .before .before .before in
+    let a = s .args in (
+      put-as
+          (ap (λ (m : ℕ). headText (a .n) (a .k) m (k .before .answer .given .0 .0) ++ linesText WIDTH (a .order .now) (a .labels .now) (a .counts .now) 0 (length (a .counts .now))) (h .before .before .total .ensures .0)
+          ∙ text-shown _ _ _ _ _ (spread-is k))
+          (put-more (h .head .ensures .0) (l .ensures .0)),
+      omega (arith, l .ensures .1, h .head .ensures .1, s .pre .0 .frames),
     )
 
 pub show-spec : {M : Type 1} → statement M

@@ -1,13 +1,12 @@
 -- The entries before place i are put, each in at most 42 bytes. A turn puts entry i behind them. What is left of the row shrinks.
 use Prim.Native.Nat.{ℕ, _+_, _-_, _*_, _≤_}
 use native.Mathlib.Omega.{arith}
-use mathlib.Core.Path.{subst, ap}
-use mathlib.Core.List.{List}
+use mathlib.Core.Path.{ap}
 use lib.ListN.{length, take}
 use lib.Seq.{take-all}
 use Rattle.listing.specs.Text.{Put}
 use Rattle.listing.specs.Lines.{entriesText}
-use Rattle.listing.proofs.TextLaws.{put-none}
+use Rattle.listing.proofs.TextLaws.{put-none, put-as}
 use Rattle.listing.proofs.LineLaws.{put-entry}
 use Rattle.listing.proofs.lines.entries.Statement.{statement}
 use Rattle.listing.proofs.lines.entries.Tie as tie
@@ -21,7 +20,7 @@ abbrev μ-loop : tie.MeasureT-loop
 
 loop-holds : tie.Need-loop-holds Inv-loop μ-loop
 unfolding entriesText
-loop-holds c = (omega arith, put-none (c .before .before .before .args .out .now) (c .before .before .before .args .at), omega arith)
+loop-holds c = (omega arith, put-none _ _, omega arith)
 
 mul-e : tie.Need-mul-e Inv-loop μ-loop
 mul-e c = omega arith
@@ -30,7 +29,10 @@ shared-slice-read-e : tie.Need-shared-slice-read-e Inv-loop μ-loop
 shared-slice-read-e c = omega arith
 
 entry-requires : tie.Need-entry-requires Inv-loop μ-loop
-entry-requires c κs = (omega (arith, c .before .before .before .loop .inv .1 .long, c .before .before .before .before .before .before .before .pre .0), c .before .before .before .before .before .before .before .pre .1 (c .before .before .before .loop .i) (omega arith))
+entry-requires c κs =
+    let l = c .before .before .before in
+    let s = l .before .before .before .before in
+    (omega (arith, l .loop .inv .1 .long, s .pre .0), s .pre .1 (l .loop .i) (omega arith))
 
 add-i : tie.Need-add-i Inv-loop μ-loop
 add-i c = omega arith
@@ -39,22 +41,25 @@ loop-less : tie.Need-loop-less Inv-loop μ-loop
 loop-less c = omega arith
 
 loop-again : tie.Need-loop-again Inv-loop μ-loop
-loop-again c = (
-  omega arith,
-  put-entry (c .before .before .before .before .before .before .before .before .before .before .args .order .now) (c .before .before .before .before .before .before .before .before .before .before .args .row .now) (c .before .before .before .before .before .before .loop .i) (omega arith) (c .before .before .before .before .before .before .loop .inv .1) (c .before .before .entry .ensures .0),
-  omega (arith, c .before .before .entry .ensures .1, c .before .before .before .before .before .before .loop .inv .2),
-)
+loop-again c =
+    let e = c .before .before .entry in
+    let l = c .before .before .before .before .before .before in
+    let a = l .before .before .before .before .args in (
+      omega arith,
+      put-entry (a .order .now) (a .row .now) (l .loop .i) (omega arith) (l .loop .inv .1) (e .ensures .0),
+      omega (arith, e .ensures .1, l .loop .inv .2),
+    )
 
 same-length : tie.Need-same-length Inv-loop μ-loop
 same-length c = c .before .loop .inv .1 .long
 
 returns : tie.Need-returns Inv-loop μ-loop
-returns c = (
-  subst (λ (t : List ℕ). Put (c .before .before .before .before .before .args .out .now) (c .before .before .before .before .before .args .at) t (c .before .loop .out) (c .before .loop .end))
-      (ap (entriesText (c .before .before .before .before .before .args .order .now)) (take-all (c .before .loop .i) (c .before .before .before .before .before .args .row .now) (omega arith)))
-      (c .before .loop .inv .1),
-  omega arith,
-)
+returns c =
+    let l = c .before .loop in
+    let a = c .before .before .before .before .before .args in (
+      put-as (ap (entriesText (a .order .now)) (take-all (l .i) (a .row .now) (omega arith))) (l .inv .1),
+      omega arith,
+    )
 
 pub entries-spec : {M : Type 1} → statement M
 entries-spec =

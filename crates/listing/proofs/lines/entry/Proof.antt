@@ -38,12 +38,16 @@ same-length c = search needs
 
 returns : tie.Need-returns
 unfolding entryText
-returns c = (
-  rw (← c .before .before .before .before .before .before .before .before .before .before .before .before .before .before .before .before .before .before .rank-of .ensures, ← c .before .before .before .before .before .before .before .before .before .before .before .before .before .before .before .before .joins-of .ensures)
-      (put-more (put-more (c .before .before .before .before .before .before .before .before .before .before .before .before .before .before .byte .ensures) (c .before .before .before .before .before .before .before .before .before .before .number .ensures .0))
-      (put-more (c .before .before .before .before .before .before .byte2 .ensures) (c .before .before .number2 .ensures .0))),
-  omega (arith, c .before .before .before .before .before .before .before .before .before .before .before .before .before .before .byte .ensures .ends, c .before .before .before .before .before .before .byte2 .ensures .ends),
-)
+returns c =
+    let joins = c .before .before in
+    let colon = joins .before .before .before .before in
+    let hub = colon .before .before .before .before in
+    let space = hub .before .before .before .before in
+    let e = space .before .before in (
+      rw (← e .before .before .rank-of .ensures, ← e .joins-of .ensures)
+          (put-more (put-more (space .byte .ensures) (hub .number .ensures .0)) (put-more (colon .byte2 .ensures) (joins .number2 .ensures .0))),
+      omega (arith, space .byte .ensures .ends, colon .byte2 .ensures .ends),
+    )
 
 pub entry-spec : {M : Type 1} → statement M
 entry-spec =

@@ -15,7 +15,10 @@ same-length : tie.Need-same-length
 same-length c = search needs
 
 returns : tie.Need-returns
-returns c = (put-more (c .before .before .before .before .before .before .bytes .ensures) (c .before .before .number .ensures .0), omega (arith, c .before .before .before .before .before .before .bytes .ensures .ends))
+returns c =
+    let m = c .before .before in
+    let w = m .before .before .before .before in
+    (put-more (w .bytes .ensures) (m .number .ensures .0), omega (arith, w .bytes .ensures .ends))
 
 pub figure-spec : {M : Type 1} → statement M
 figure-spec = tie.close (tie.spec bytes-requires number-requires same-length returns)

@@ -38,12 +38,17 @@ same-length c = search needs
 
 returns : tie.Need-returns
 unfolding headText
-returns c = (
-  put-more (c .before .before .before .before .before .before .before .before .before .before .before .before .before .before .before .before .before .before .before .before .before .figure .ensures .0)
-      (put-more (c .before .before .before .before .before .before .before .before .before .before .before .before .before .before .before .before .figure2 .ensures .0)
-      (put-more (c .before .before .before .before .before .before .before .before .before .before .before .figure3 .ensures .0) (put-more (c .before .before .before .before .before .before .figure4 .ensures .0) (c .before .before .byte .ensures)))),
-  omega (arith, c .before .before .byte .ensures .ends),
-)
+returns c =
+    let end = c .before .before in
+    let spread = end .before .before .before .before in
+    let entries = spread .before .before .before .before .before in
+    let hubs = entries .before .before .before .before .before in
+    let frames = hubs .before .before .before .before .before in (
+      put-more (frames .figure .ensures .0)
+          (put-more (hubs .figure2 .ensures .0)
+          (put-more (entries .figure3 .ensures .0) (put-more (spread .figure4 .ensures .0) (end .byte .ensures)))),
+      omega (arith, end .byte .ensures .ends),
+    )
 
 pub head-spec : {M : Type 1} → statement M
 head-spec =

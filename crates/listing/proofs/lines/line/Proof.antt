@@ -20,10 +20,13 @@ same-length c = search needs
 
 returns : tie.Need-returns
 unfolding lineText
-returns c = (
-  put-more (c .before .before .before .before .before .before .before .before .before .before .number .ensures .0) (put-more (c .before .before .before .before .before .before .entries .ensures .0) (c .before .before .byte .ensures)),
-  omega (arith, c .before .before .byte .ensures .ends, c .before .before .before .before .before .before .entries .ensures .1, c .before .before .before .before .before .before .before .before .before .before .number .ensures .1),
-)
+returns c =
+    let b = c .before .before in
+    let e = b .before .before .before .before in
+    let m = e .before .before .before .before in (
+      put-more (m .number .ensures .0) (put-more (e .entries .ensures .0) (b .byte .ensures)),
+      omega (arith, b .byte .ensures .ends, e .entries .ensures .1, m .number .ensures .1),
+    )
 
 pub line-spec : {M : Type 1} → statement M
 line-spec = tie.close (tie.spec number-requires entries-requires byte-requires same-length returns)

@@ -10,7 +10,7 @@ use Rattle.rows.specs.Entry.{rankOf}
 use Rattle.rows.specs.Rooms.{rowAt}
 use Rattle.listing.specs.Text.{Put}
 use Rattle.listing.specs.Lines.{WIDTH, lineText, linesText}
-use Rattle.listing.proofs.TextLaws.{put-none}
+use Rattle.listing.proofs.TextLaws.{put-none, put-as}
 use Rattle.listing.proofs.LineLaws.{put-line, shown-row, shown-few, shown-ranks}
 use Rattle.listing.proofs.lines.lines.Statement.{statement}
 use Rattle.listing.proofs.lines.lines.Tie as tie
@@ -26,7 +26,7 @@ abbrev μ-loop : tie.MeasureT-loop
 
 loop-holds : tie.Need-loop-holds Inv-loop μ-loop
 unfolding linesText
-loop-holds c = (omega arith, put-none (c .before .before .before .before .args .out .now) (c .before .before .before .before .args .at), omega arith)
+loop-holds c = (omega arith, put-none _ _, omega arith)
 
 mul-count : tie.Need-mul-count Inv-loop μ-loop
 mul-count c = omega arith
@@ -40,16 +40,24 @@ cast-count c = omega (arith, c .shared-slice-known4 .given (c .before .before .l
 row-part-requires : tie.Need-row-part-requires Inv-loop μ-loop
 row-part-requires c κs = tt
 
+-- the part handed over is the row of frame v
+row-is : (c : tie.After-row-part Inv-loop μ-loop) →
+    let a = c .before .before .before .before .before .before .before .before .args in
+    now (c .row-part .result) ≡ rowAt WIDTH (a .labels .now) (a .counts .now) (c .before .before .before .loop .v)
+row-is c =
+    let s = c .before .before .before .before .before .before .before .before in
+    c .row-part .ensures .0 ∙ shown-row (s .pre .0) _ (c .before .before .loop-test .taken)
+
 line-requires : tie.Need-line-requires Inv-loop μ-loop
 line-requires c κs =
-    let v : ℕ = c .before .before .before .before .loop .v in
-    let inside : v < length (c .before .before .before .before .before .before .before .before .before .args .counts .now) = omega arith in
-    let same : now (c .before .row-part .result) ≡ rowAt WIDTH (c .before .before .before .before .before .before .before .before .before .args .labels .now) (c .before .before .before .before .before .before .before .before .before .args .counts .now) v =
-    c .before .row-part .ensures .0 ∙ shown-row (c .before .before .before .before .before .before .before .before .before .pre .0) v inside in (
-      omega (arith, ap length same, shown-few (c .before .before .before .before .before .before .before .before .before .pre .0) v inside, c .before .before .before .before .loop .inv .1 .long, c .before .before .before .before .loop .inv .2, c .before .before .before .before .before .before .before .before .before .pre .1),
+    let l = c .before .before .before .before .loop in
+    let s = c .before .before .before .before .before .before .before .before .before in
+    let inside : l .v < length (s .args .counts .now) = c .before .before .before .loop-test .taken in
+    let same = row-is (c .before) in (
+      omega (arith, ap length same, shown-few (s .pre .0) (l .v) inside, l .inv .1 .long, l .inv .2, s .pre .1),
       λ i k.
-          subst (λ (row : List ℕ). rankOf (getD row i 0) < length (c .before .before .before .before .before .before .before .before .before .args .order .now)) (sym same)
-          (shown-ranks (c .before .before .before .before .before .before .before .before .before .pre .0) v inside i (subst (λ (row : List ℕ). i < length row) same k)),
+          subst (λ (row : List ℕ). rankOf (getD row i 0) < length (s .args .order .now)) (sym same)
+          (shown-ranks (s .pre .0) (l .v) inside i (subst (λ (row : List ℕ). i < length row) same k)),
     )
 
 add-v : tie.Need-add-v Inv-loop μ-loop
@@ -60,15 +68,16 @@ loop-less c = omega arith
 
 loop-again : tie.Need-loop-again Inv-loop μ-loop
 loop-again c =
-    let v : ℕ = c .before .before .before .before .before .before .before .loop .v in
-    let inside : v < length (c .before .before .before .before .before .before .before .before .before .before .before .before .args .counts .now) = omega arith in
-    let same : now (c .before .before .before .before .row-part .result) ≡ rowAt WIDTH (c .before .before .before .before .before .before .before .before .before .before .before .before .args .labels .now) (c .before .before .before .before .before .before .before .before .before .before .before .before .args .counts .now) v =
-    c .before .before .before .before .row-part .ensures .0 ∙ shown-row (c .before .before .before .before .before .before .before .before .before .before .before .before .pre .0) v inside in (
+    let e = c .before .before .line in
+    let r = c .before .before .before .before in
+    let l = r .before .before .before .loop in
+    let s = r .before .before .before .before .before .before .before .before in
+    let a = s .args in
+    let inside : l .v < length (a .counts .now) = r .before .before .loop-test .taken in
+    let same = row-is r in (
       omega arith,
-      put-line (c .before .before .before .before .before .before .before .before .before .before .before .before .args .order .now) (c .before .before .before .before .before .before .before .before .before .before .before .before .args .labels .now) (c .before .before .before .before .before .before .before .before .before .before .before .before .args .counts .now) v (c .before .before .before .before .before .before .before .loop .inv .1)
-          (subst (λ (row : List ℕ). Put (c .before .before .before .before .before .before .before .loop .out) (c .before .before .before .before .before .before .before .loop .end) (lineText (c .before .before .before .before .before .before .before .before .before .before .before .before .args .order .now) v row) (c .before .before .line .last .0) (c .before .before .line .result)) same
-          (c .before .before .line .ensures .0)),
-      omega (arith, ap length same, shown-few (c .before .before .before .before .before .before .before .before .before .before .before .before .pre .0) v inside, c .before .before .line .ensures .1, c .before .before .before .before .before .before .before .loop .inv .2),
+      put-line (a .order .now) (a .labels .now) (a .counts .now) (l .v) (l .inv .1) (put-as (ap (lineText (a .order .now) (l .v)) same) (e .ensures .0)),
+      omega (arith, ap length same, shown-few (s .pre .0) (l .v) inside, e .ensures .1, l .inv .2),
     )
 
 same-length : tie.Need-same-length Inv-loop μ-loop
@@ -76,11 +85,10 @@ same-length c = c .before .loop .inv .1 .long
 
 returns : tie.Need-returns Inv-loop μ-loop
 returns c =
-    let all : c .before .loop .v ≡ length (c .before .before .before .before .before .before .args .counts .now) = omega arith in (
-      subst (λ (k : ℕ). Put (c .before .before .before .before .before .before .args .out .now) (c .before .before .before .before .before .before .args .at) (linesText WIDTH (c .before .before .before .before .before .before .args .order .now) (c .before .before .before .before .before .before .args .labels .now) (c .before .before .before .before .before .before .args .counts .now) 0 k) (c .before .loop .out) (c .before .loop .end))
-          all (c .before .loop .inv .1),
-      omega arith,
-    )
+    let l = c .before .loop in
+    let a = c .before .before .before .before .before .before .args in
+    let all : l .v ≡ length (a .counts .now) = omega arith in
+    (put-as (ap (linesText WIDTH (a .order .now) (a .labels .now) (a .counts .now) 0) all) (l .inv .1), omega arith)
 
 pub lines-spec : {M : Type 1} → statement M
 lines-spec =

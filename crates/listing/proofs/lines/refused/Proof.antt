@@ -20,7 +20,9 @@ same-length c = search needs
 
 returns : tie.Need-returns
 unfolding refusedText
-returns c = (put-more (c .before .before .before .before .before .before .figure .ensures .0) (c .before .before .byte .ensures), omega (arith, c .before .before .byte .ensures .ends))
+returns c =
+    let b = c .before .before in
+    (put-more (b .before .before .before .before .figure .ensures .0) (b .byte .ensures), omega (arith, b .byte .ensures .ends))
 
 pub refused-spec : {M : Type 1} → statement M
 refused-spec =

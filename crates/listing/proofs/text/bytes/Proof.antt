@@ -3,12 +3,10 @@
 use Prim.Native.Nat.{ℕ, _+_, _-_, _≤_, _<_}
 use native.Mathlib.Nat.{add-zero}
 use native.Mathlib.Omega.{arith}
-use mathlib.Core.Path.{subst}
-use mathlib.Core.List.{List}
 use lib.ListN.{length, take}
 use lib.Seq.{take-all}
 use Rattle.listing.specs.Text.{Put}
-use Rattle.listing.proofs.TextLaws.{put-none, put-next}
+use Rattle.listing.proofs.TextLaws.{put-none, put-as, put-next}
 use Rattle.listing.proofs.text.bytes.Statement.{statement}
 use Rattle.listing.proofs.text.bytes.Tie as tie
 
@@ -38,8 +36,8 @@ loop-less c = omega arith
 
 loop-again : tie.Need-loop-again Inv-loop μ-loop
 loop-again c =
-    let before : Put _ _ _ _ _ = c .before .before .loop .inv .1 in
-    (omega arith, put-next (c .before .before .before .args .text .now) (c .before .before .loop .i) (omega arith) (omega (arith, before .long)) before)
+    let l = c .before .before .loop in
+    (omega arith, put-next (c .before .before .before .args .text .now) (l .i) (omega arith) (omega (arith, l .inv .1 .long)) (l .inv .1))
 
 add-result : tie.Need-add-result Inv-loop μ-loop
 add-result c = omega arith
@@ -49,11 +47,8 @@ same-length c = c .before .loop .inv .1 .long
 
 returns : tie.Need-returns Inv-loop μ-loop
 returns c =
-    let text : List ℕ = c .before .before .args .text .now in
-    let done : Put _ _ _ _ _ = c .before .loop .inv .1 in
-    subst (λ (t : List ℕ). Put (c .before .before .args .out .now) (c .before .before .args .at) t (c .before .loop .out) (c .before .before .args .at + c .before .loop .i))
-    (take-all (c .before .loop .i) text (omega arith))
-    done
+    let l = c .before .loop in
+    put-as (take-all (l .i) (c .before .before .args .text .now) (omega arith)) (l .inv .1)
 
 pub bytes-spec : {M : Type 1} → statement M
 bytes-spec =

@@ -1,13 +1,12 @@
 -- `io::decimal` spells the fewest digits, at most twenty for 64 bits; they are put as bytes.
 use Prim.Native.Nat.{ℕ, _+_, _≤_, _<_}
 use native.Mathlib.Omega.{arith}
-use mathlib.Core.Path.{_≡_, subst, _∙_}
-use mathlib.Core.List.{List}
+use mathlib.Core.Path.{_≡_, _∙_}
 use lib.ListN.{length, take}
 use lib.Seq.{length-take-le}
 use borrow.Author.Needs.{needs}
-use Rattle.listing.specs.Text.{Put, decimal}
-use Rattle.listing.proofs.TextLaws.{few-places, decimal-is}
+use Rattle.listing.specs.Text.{decimal}
+use Rattle.listing.proofs.TextLaws.{put-as, few-places, decimal-is}
 use Rattle.listing.proofs.text.number.Statement.{statement}
 use Rattle.listing.proofs.text.number.Tie as tie
 
@@ -37,7 +36,7 @@ returns c =
     let most : call .result ≤ 20 = few-places (start .args .x) (call .result) (omega arith) (call .ensures .1 .0) in
     let spelt : take (call .result) (call .last .1 .0) ≡ decimal (start .args .x) =
     call .ensures .1 .1 ∙ decimal-is (start .args .x) (call .result) most (call .ensures .1 .0) in (
-      subst (λ (t : List ℕ). Put (start .args .out .now) (start .args .at) t (done .last .0) (done .result)) spelt (done .ensures),
+      put-as spelt (done .ensures),
       omega (arith, done .ensures .ends, length-take-le (call .result) (call .last .1 .0) (call .ensures .0 .0)),
     )
 

@@ -1,58 +1,39 @@
--- The loop's invariant: the best so far with the meetings of what is left of both rows is the best of all. A turn passes over
--- the lower of two ranks, which meets nothing, or takes one meeting. What is left of both rows shrinks.
-use Prim.Native.Nat.{ℕ, _+_, _-_, _*_, _≤_, _<_}
-use mathlib.Core.Path.{_≡_, refl, sym, ap, _∙_}
-use mathlib.Core.List.{List, [], _∷_}
+-- A turn holds the meeting of two entries against the least so far and goes past the lower rank, or both; at either row's
+-- end the least is the best of all. What is left of both rows shrinks.
+use Prim.Native.Nat.{ℕ, _+_, _-_, _≤_}
+use mathlib.Core.Path.{_≡_, _∙_}
+use mathlib.Core.List.{List}
+use mathlib.Core.Logic.{inl, inr}
 use native.Mathlib.Omega.{arith}
 use borrow.Author.Needs.{needs}
-use lib.ListN.{length, getD, drop}
-use lib.Seq.{drop-length}
+use lib.ListN.{length, getD}
 use denote.Ref.{now}
-use Rattle.rows.specs.Entry.{rankOf, joinsOf}
-use Rattle.rows.specs.Meetings.{meeting, meetings, lesserOf, leastFrom, meetingOf}
+use Rattle.rows.specs.Meetings.{atRank, lesserBy, pastBy}
 use Rattle.rows.specs.declared.merge.Meeting.{Meeting}
-use Rattle.rows.specs.declared.merge.Best.{Best}
-use Rattle.rows.specs.declared.merge.Best.the-variants.{Nowhere}
 use Rattle.rows.proofs.Laws.{joins-small}
-use Rattle.rows.proofs.MeetingLaws.{step-left, step-right, step-both, none-left, none-right}
+use Rattle.rows.proofs.MeetingLaws.{Merged, past-most, past-some, merged-start, merged-on, merged-end}
 use Rattle.rows.proofs.merge.merge.Statement.{statement}
 use Rattle.rows.proofs.merge.merge.Tie as tie
 
 abbrev Inv-loop : tie.InvT-loop
-Inv-loop a b best₀ i₀ j₀ best i j =
-    (i ≤ length a) × (j ≤ length b) × (leastFrom best (meetings (drop i a) (drop j b)) ≡ meetingOf a b)
+Inv-loop a b least₀ i₀ j₀ least i j = (i ≤ length a) × (j ≤ length b) × Merged a b least i j
 
 abbrev μ-loop : tie.MeasureT-loop
-μ-loop a b best₀ i₀ j₀ best i j = length a - i + (length b - j)
+μ-loop a b least₀ i₀ j₀ least i j = length a - i + (length b - j)
 
--- at either row's end the best so far is the best of all
-at-end : {best all : Best} (a b : List ℕ) (i j : ℕ) → leastFrom best (meetings (drop i a) (drop j b)) ≡ all
-    → meetings (drop i a) (drop j b) ≡ [] → best ≡ all
-unfolding leastFrom
-at-end {best} a b i j e none = sym (ap (leastFrom best) none) ∙ e
-
--- the same meetings left
-passed : (best : Best) {all : Best} {left rest : List Meeting} → leastFrom best left ≡ all → left ≡ rest → leastFrom best rest ≡ all
-passed best e same = sym (ap (leastFrom best) same) ∙ e
-
--- one of them taken
-taken : (best : Best) {next all : Best} {m : Meeting} {left rest : List Meeting} → leastFrom best left ≡ all → left ≡ m ∷ rest
-    → next ≡ lesserOf best m → leastFrom next rest ≡ all
-unfolding leastFrom
-taken best {rest = rest} e same new = ap (λ (b : Best). leastFrom b rest) new ∙ sym (ap (leastFrom best) same) ∙ e
+-- the turn as the code makes it
+again : {a b : List ℕ} {least next : Meeting} (i j : ℕ) {p q past other : ℕ} → Merged a b least (i + p) (j + q) → next ≡ least
+    → past ≡ p → other ≡ q → Merged a b next (i + past) (j + other)
+again i j m e f g = rw (e, f, g) m
 
 loop-holds : tie.Need-loop-holds Inv-loop μ-loop
-unfolding meetingOf
-loop-holds c =
-    (omega arith, omega arith, refl)
+loop-holds c = (omega arith, omega arith, merged-start _ _)
+
+best-of-requires : tie.Need-best-of-requires Inv-loop μ-loop
+best-of-requires c κs = search needs
 
 returns : tie.Need-returns Inv-loop μ-loop
-returns c =
-    let a = c .before .before .before .before .before .args in
-    let l = c .before .before .loop in
-    let e : l .j ≡ length (now (a .b)) = omega arith in
-    at-end (now (a .a)) (now (a .b)) (l .i) (l .j) (l .inv .2)
-    (rw (e, drop-length (now (a .b))) (none-right (drop (l .i) (now (a .a)))))
+returns c = c .best-of .ensures ∙ merged-end (c .before .before .before .loop .inv .2) (inr (omega arith))
 
 mul-e : tie.Need-mul-e Inv-loop μ-loop
 mul-e c = search needs
@@ -72,94 +53,73 @@ rank-of-requires c κs = search needs
 rank-of-requires-2 : tie.Need-rank-of-requires-2 Inv-loop μ-loop
 rank-of-requires-2 c κs = search needs
 
-add-i : tie.Need-add-i Inv-loop μ-loop
-add-i c = search needs
-
-loop-less : tie.Need-loop-less Inv-loop μ-loop
-loop-less c = search needs
-
-loop-again : tie.Need-loop-again Inv-loop μ-loop
-loop-again c =
-    let s = c .before .before .before .before .before .before .before .before .before .before in
-    let l = c .before .before .before .before .before .before .before .loop in (
-      omega arith,
-      omega arith,
-      passed (l .best) (l .inv .2)
-          (step-left (now (s .args .a)) (now (s .args .b)) (l .i) (l .j) (omega arith) (omega arith) (s .pre .1)
-          (omega (arith, c .before .rank-of2 .ensures, c .before .before .rank-of .ensures))),
-    )
-
-add-j : tie.Need-add-j Inv-loop μ-loop
-add-j c = search needs
-
-loop-less-2 : tie.Need-loop-less-2 Inv-loop μ-loop
-loop-less-2 c = search needs
-
-loop-again-2 : tie.Need-loop-again-2 Inv-loop μ-loop
-loop-again-2 c =
-    let s = c .before .before .before .before .before .before .before .before .before .before .before in
-    let l = c .before .before .before .before .before .before .before .before .loop in (
-      omega arith,
-      omega arith,
-      passed (l .best) (l .inv .2)
-          (step-right (now (s .args .a)) (now (s .args .b)) (l .i) (l .j) (omega arith) (omega arith) (s .pre .0)
-          (omega (arith, c .before .before .rank-of2 .ensures, c .before .before .before .rank-of .ensures))),
-    )
-
 joins-of-requires : tie.Need-joins-of-requires Inv-loop μ-loop
 joins-of-requires c κs = search needs
 
 joins-of-requires-2 : tie.Need-joins-of-requires-2 Inv-loop μ-loop
 joins-of-requires-2 c κs = search needs
 
-add-sum : tie.Need-add-sum Inv-loop μ-loop
-add-sum c =
-    let s = c .before .before .before .before .before .before .before .before .before .before .before .before .before in
+add-at-rank : tie.Need-add-at-rank Inv-loop μ-loop
+add-at-rank c =
+    let s = c .before .before .before .before .before .before .before .before .before .before .before in
+    let l = c .before .before .before .before .before .before .before .before .loop in
     omega (
       arith,
       c .joins-of2 .ensures,
       c .before .joins-of .ensures,
-      joins-small (getD (now (s .args .a)) (c .before .before .before .before .before .before .before .before .before .before .loop .i) 0),
-      joins-small (getD (now (s .args .b)) (c .before .before .before .before .before .before .before .before .before .before .loop .j) 0),
+      joins-small (getD (now (s .args .a)) (l .i) 0),
+      joins-small (getD (now (s .args .b)) (l .j) 0),
     )
+
+at-rank-requires : tie.Need-at-rank-requires Inv-loop μ-loop
+at-rank-requires c κs = search needs
 
 lesser-requires : tie.Need-lesser-requires Inv-loop μ-loop
 lesser-requires c κs = search needs
 
-add-i-2 : tie.Need-add-i-2 Inv-loop μ-loop
-add-i-2 c = search needs
+step-past-requires : tie.Need-step-past-requires Inv-loop μ-loop
+step-past-requires c κs = search needs
 
-add-j-2 : tie.Need-add-j-2 Inv-loop μ-loop
-add-j-2 c = search needs
+add-i : tie.Need-add-i Inv-loop μ-loop
+add-i c = omega (arith, c .step-past .ensures, past-most (c .before .before .before .before .before .before .rank-of .result) (c .before .before .before .before .before .rank-of2 .result))
 
-loop-less-3 : tie.Need-loop-less-3 Inv-loop μ-loop
-loop-less-3 c = search needs
+step-past-requires-2 : tie.Need-step-past-requires-2 Inv-loop μ-loop
+step-past-requires-2 c κs = search needs
 
-loop-again-3 : tie.Need-loop-again-3 Inv-loop μ-loop
-loop-again-3 c =
-    let s = c .before .before .before .before .before .before .before .before .before .before .before .before .before .before in
-    let l = c .before .before .before .before .before .before .before .before .before .before .before .loop in (
-      omega arith,
-      omega arith,
-      taken (l .best) (l .inv .2)
-          (step-both (now (s .args .a)) (now (s .args .b)) (l .i) (l .j) (omega arith) (omega arith) (s .pre .0) (s .pre .1)
-          (omega (arith, c .before .before .before .before .before .rank-of2 .ensures, c .before .before .before .before .before .before .rank-of .ensures)))
-          (c .lesser .ensures
+add-j : tie.Need-add-j Inv-loop μ-loop
+add-j c = omega (arith, c .step-past2 .ensures, past-most (c .before .before .before .before .before .before .rank-of2 .result) (c .before .before .before .before .before .before .before .rank-of .result))
+
+loop-less : tie.Need-loop-less Inv-loop μ-loop
+loop-less c = omega (arith, c .step-past2 .ensures, c .before .step-past .ensures, past-some (c .before .before .before .before .before .before .before .rank-of .result) (c .before .before .before .before .before .before .rank-of2 .result))
+
+loop-again : tie.Need-loop-again Inv-loop μ-loop
+loop-again c =
+    let s = c .before .before .before .before .before .before .before .before .before .before .before .before .before .before .before in
+    let l = c .before .before .before .before .before .before .before .before .before .before .before .before .loop in
+    let rank = c .before .before .before .before .before .before .before .rank-of in
+    let other = c .before .before .before .before .before .before .rank-of2 in
+    let sum = c .before .before .before .at-rank .ensures in
+    let joins = c .before .before .before .before .before .joins-of .ensures in
+    let more = c .before .before .before .before .joins-of2 .ensures in (
+      omega (arith, c .before .step-past .ensures, past-most (rank .result) (other .result)),
+      omega (arith, c .step-past2 .ensures, past-most (other .result) (rank .result)),
+      again (l .i) (l .j) (merged-on (l .inv .2) (s .pre .0) (s .pre .1) (omega arith) (omega arith))
+          (c .before .before .lesser .ensures
           ∙ (λ x.
-          lesserOf (l .best)
+          lesserBy (l .least)
           record {
-            rank = c .before .before .before .before .before .before .rank-of .ensures x;
-            sum = c .before .before .joins-of .ensures x + c .before .joins-of2 .ensures x;
-          })),
+            rank = rank .ensures x;
+            sum = (sum ∙ (λ y. atRank (rank .ensures y) (other .ensures y) (joins y + more y))) x;
+          }))
+          (c .before .step-past .ensures ∙ (λ x. pastBy (rank .ensures x) (other .ensures x)))
+          (c .step-past2 .ensures ∙ (λ x. pastBy (other .ensures x) (rank .ensures x))),
     )
 
+best-of-requires-2 : tie.Need-best-of-requires-2 Inv-loop μ-loop
+best-of-requires-2 c κs = search needs
+
 returns-2 : tie.Need-returns-2 Inv-loop μ-loop
-returns-2 c =
-    let a = c .before .before .before .before .args in
-    let l = c .before .loop in
-    let e : l .i ≡ length (now (a .a)) = omega arith in
-    at-end (now (a .a)) (now (a .b)) (l .i) (l .j) (l .inv .2)
-    (rw (e, drop-length (now (a .a))) (none-left (drop (l .j) (now (a .b)))))
+returns-2 c = c .best-of2 .ensures ∙ merged-end (c .before .before .loop .inv .2) (inl (omega arith))
 
 pub merge-spec : {M : Type 1} → statement M
 merge-spec =
@@ -168,6 +128,7 @@ merge-spec =
     Inv-loop
     μ-loop
     loop-holds
+    best-of-requires
     returns
     mul-e
     shared-slice-read-e
@@ -175,18 +136,16 @@ merge-spec =
     shared-slice-read-f
     rank-of-requires
     rank-of-requires-2
-    add-i
-    loop-less
-    loop-again
-    add-j
-    loop-less-2
-    loop-again-2
     joins-of-requires
     joins-of-requires-2
-    add-sum
+    add-at-rank
+    at-rank-requires
     lesser-requires
-    add-i-2
-    add-j-2
-    loop-less-3
-    loop-again-3
+    step-past-requires
+    add-i
+    step-past-requires-2
+    add-j
+    loop-less
+    loop-again
+    best-of-requires-2
     returns-2)

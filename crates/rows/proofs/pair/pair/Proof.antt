@@ -1,22 +1,12 @@
 -- A refusal of the tests stands; behind fine tests both rows are fit for the merge, whose best meeting is the answer.
-use Prim.Native.Nat.{ℕ}
-use mathlib.Core.Path.{_≡_, refl, sym, ap, _∙_}
-use mathlib.Core.List.{List}
+use mathlib.Core.Path.{_≡_, sym, _∙_}
 use borrow.Author.Needs.{needs}
 use denote.Ref.{now}
-use Rattle.refusal.specs.declared.Verdict.{Verdict}
 use Rattle.refusal.specs.declared.Verdict.the-variants.{Fine}
-use Rattle.rows.specs.Pair.{pairOf, pairTold, pairTests, answered, told}
-use Rattle.rows.specs.declared.merge.Best.{Best}
-use Rattle.rows.specs.declared.pair.Answer.{Answer}
-use Rattle.rows.proofs.PairLaws.{Asked, pair-asked, row-in, answer-refused, answer-fine, answer-told}
+use Rattle.rows.specs.Pair.{pairTests, answered}
+use Rattle.rows.proofs.PairLaws.{pair-asked, row-in, answer-refused, answer-fine}
 use Rattle.rows.proofs.pair.pair.Statement.{statement}
 use Rattle.rows.proofs.pair.pair.Tie as tie
-
--- both promises from the first
-outcome : (n w : ℕ) (labels counts : List ℕ) (s t : ℕ) {r : Answer} → r ≡ pairOf n w labels counts s t
-    → (r ≡ pairOf n w labels counts s t) × (told r ≡ pairTold n w labels counts s t)
-outcome n w labels counts s t e = (e, ap told e ∙ answer-told n w labels counts s t)
 
 -- the tests, once they are found fine
 fine : (c : tie.After-enum-told)
@@ -34,10 +24,9 @@ enum-known-asked c = search needs
 returns : tie.Need-returns
 returns c =
     let a = c .before .before .before .before .before .before .args in
-    outcome (a .n) (a .w) (now (a .labels)) (now (a .counts)) (a .s) (a .t)
-    (sym
+    sym
     (answer-refused (a .n) (a .w) (now (a .labels)) (now (a .counts)) (a .s) (a .t)
-    (sym (c .before .before .before .check-pair .ensures) ∙ c .before .asked .given .1)))
+    (sym (c .before .before .before .check-pair .ensures) ∙ c .before .asked .given .1))
 
 enum-told : tie.Need-enum-told
 enum-told c = search needs
@@ -58,19 +47,17 @@ returns-2 : tie.Need-returns-2
 unfolding answered
 returns-2 c =
     let a = c .before .before .before .before .before .before .before .before .args in
-    outcome (a .n) (a .w) (now (a .labels)) (now (a .counts)) (a .s) (a .t)
-    (sym
+    sym
     (answer-fine (a .n) (a .w) (now (a .labels)) (now (a .counts)) (a .s) (a .t) (fine (c .before .before .before))
-    (sym (c .enum-told2 .given .1) ∙ c .before .before .meet .ensures)))
+    (sym (c .enum-told2 .given .1) ∙ c .before .before .meet .ensures))
 
 returns-3 : tie.Need-returns-3
 unfolding answered
 returns-3 c =
     let a = c .before .before .before .before .before .before .before .before .before .args in
-    outcome (a .n) (a .w) (now (a .labels)) (now (a .counts)) (a .s) (a .t)
-    (sym
+    sym
     (answer-fine (a .n) (a .w) (now (a .labels)) (now (a .counts)) (a .s) (a .t) (fine (c .before .before .before .before))
-    (sym (c .before .best .given .1) ∙ c .before .before .before .meet .ensures)))
+    (sym (c .before .best .given .1) ∙ c .before .before .before .meet .ensures))
 
 pub pair-spec : {M : Type 1} → statement M
 pair-spec =

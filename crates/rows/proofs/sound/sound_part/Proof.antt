@@ -5,7 +5,6 @@ use Prim.Native.Nat.{ℕ, zero, suc, _+_, _-_, _*_, _≤_, _<_}
 use mathlib.Core.Path.{_≡_, refl, sym, ap, _∙_}
 use mathlib.Core.Bool.{Bool, true, false, not}
 use mathlib.Core.List.{List}
-use native.Mathlib.Decide.{ℕ-discrete}
 use native.Mathlib.Nat.{add-sub-cancel}
 use native.Mathlib.Omega.{arith}
 use borrow.Author.Count.{below-more}
@@ -14,7 +13,7 @@ use borrow.Author.Tests.{le-leb, lt-leb}
 use lib.ListN.{length, getD}
 use denote.Ref.{now}
 use Rattle.basics.specs.Places.{some}
-use Rattle.basics.proofs.Laws.{by-cases, lt-or-ge, some-one, some-none, not-of-true, not-of-false}
+use Rattle.basics.proofs.Laws.{lt-or-ge, some-one, some-none, not-of-true, not-of-false}
 use Rattle.rows.specs.Entry.{rankOf, joinsOf}
 use Rattle.rows.specs.Rooms.{faultyEntry}
 use Rattle.rows.proofs.Laws.{rank-small, faultless, faultless-higher, faulty-rank, faulty-joins, faulty-rise}
@@ -25,7 +24,7 @@ abbrev Inv-loop : tie.InvT-loop
 Inv-loop bound n row floor₀ at₀ floor at =
     (at ≤ length row)
     × ((i : ℕ) → i < at → faultyEntry floor n row i ≡ false)
-    × (at ≡ 0 → floor ≡ 0)
+    × (0 < floor → 0 < at)
     × (0 < at → floor ≡ rankOf (getD row (at - 1) 0) + 1)
 
 abbrev μ-loop : tie.MeasureT-loop
@@ -37,7 +36,7 @@ refused : (bound n : ℕ) (row : List ℕ) (i : ℕ) → i < length row → faul
 refused bound n row i h e = sym (not-of-true (some-one (faultyEntry bound n row) 0 (length row) i (omega arith) (omega arith) e))
 
 loop-holds : tie.Need-loop-holds Inv-loop μ-loop
-loop-holds c = (omega arith, (λ i h. absurd (omega arith)), (λ e. refl), (λ h. absurd (omega arith)))
+loop-holds c = (omega arith, (λ i h. absurd (omega arith)), (λ h. absurd (omega arith)), (λ h. absurd (omega arith)))
 
 mul-e : tie.Need-mul-e Inv-loop μ-loop
 mul-e c = search needs
@@ -56,11 +55,9 @@ returns c =
     let a = c .before .before .before .before .before .before .before .args in
     let l = c .before .before .before .before .before .loop in
     let rank = c .before .before .rank-of .ensures in
-    by-cases (ℕ-discrete (l .at) 0)
-    (λ (e : l .at ≡ 0). absurd (omega (arith, l .inv .2 e)))
-    (λ e.
+    let h : 0 < l .at = l .inv .2 (omega arith) in
     refused (a .bound) (a .n) (now (a .row)) (l .at) (omega arith)
-    (faulty-rise (a .bound) (a .n) (now (a .row)) (l .at) (omega arith) (omega (arith, l .inv .3 (omega arith), rank))))
+    (faulty-rise (a .bound) (a .n) (now (a .row)) (l .at) h (omega (arith, l .inv .3 h, rank)))
 
 returns-2 : tie.Need-returns-2 Inv-loop μ-loop
 returns-2 c =
@@ -93,7 +90,7 @@ loop-again c =
       below-more _ _ (λ i h. faultless-higher (a .n) (now (a .row)) i (omega arith) (l .inv .1 i h))
           (faultless _ (a .n) (now (a .row)) (l .at) (omega (arith, rank)) (omega (arith, joins))
           (λ h. omega (arith, rank, l .inv .3 h))),
-      (λ e. absurd (omega arith)),
+      (λ h. omega arith),
       (λ h. rw add-sub-cancel (ap (λ (k : ℕ). k + 1) rank)),
     )
 
@@ -103,12 +100,10 @@ returns-3 c =
     let l = c .before .loop in
     lt-or-ge (a .bound) (l .floor)
     (λ h.
+    let k : 0 < l .at = l .inv .2 (omega arith) in
     lt-leb (l .floor) (a .bound) h
-    ∙ by-cases (ℕ-discrete (l .at) 0)
-    (λ (e : l .at ≡ 0). absurd (omega (arith, l .inv .2 e)))
-    (λ e.
-    refused (a .bound) (a .n) (now (a .row)) (l .at - 1) (omega arith)
-    (faulty-rank (a .bound) (a .n) (now (a .row)) (l .at - 1) (omega (arith, l .inv .3 (omega arith))))))
+    ∙ refused (a .bound) (a .n) (now (a .row)) (l .at - 1) (omega arith)
+    (faulty-rank (a .bound) (a .n) (now (a .row)) (l .at - 1) (omega (arith, l .inv .3 k))))
     (λ h.
     le-leb (l .floor) (a .bound) h
     ∙ sym

@@ -1,0 +1,39 @@
+// Tests 1 and 2 on a block: sizes, then the length of the start positions.
+use refusal::Verdict;
+ghost use mathlib.Core.Path.{_≡_};
+ghost use mathlib.Core.Bool.{_&&_};
+ghost use Rattle.links.specs.Links.{framesFit, placesFit};
+ghost use Rattle.links.specs.Inner.{sizesTest};
+
+// Whether n is 1 to 4,096.
+pub fn frames_fit(n: usize) -> bool
+    ensures { λ r. ⌜ r ≡ framesFit n ⌝ }
+{
+    if n < 1 {
+        return false;
+    }
+    n <= 4096
+}
+
+// Whether n and the number of neighbour places are in range.
+pub fn sizes_fit(n: usize, places: usize) -> bool
+    ensures { λ r. ⌜ r ≡ framesFit n && placesFit places ⌝ }
+{
+    if frames_fit(n) {
+        return places <= 65536;
+    }
+    false
+}
+
+// Tests 1 and 2.
+pub fn tests(n: usize, starts: &[u32], places: &[u32]) -> Verdict
+    ensures { λ r. ⌜ r ≡ sizesTest n (now (starts .entry)) (now (places .entry)) ⌝ }
+{
+    if sizes_fit(n, places.len()) {
+        if starts.len() == n + 1 {
+            return Verdict::Fine;
+        }
+        return refusal::refused(refusal::LENGTH, 0);
+    }
+    refusal::refused(refusal::SIZE, 0)
+}
