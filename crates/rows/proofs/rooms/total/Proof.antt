@@ -1,22 +1,16 @@
 -- The sum of the counts. The invariant: the sum so far and the sum of those left are the whole, and a count is
 -- below 2 ^ 32. The counts left grow fewer.
 use Prim.Native.Nat.{ℕ, _+_, _-_, _*_, _^_, _≤_, _<_}
-use mathlib.Core.Path.{_≡_, ap}
+use mathlib.Core.Path.{_≡_}
 use mathlib.Core.List.{List}
 use native.Mathlib.Omega.{arith}
 use borrow.Author.Needs.{needs}
 use denote.Ref.{now}
 use lib.ListN.{length, getD, drop}
-use native.Mathlib.Numerals.{add-one}
-use lib.ListN.{drop-of-length-le}
-use lib.Seq.{drop-cons}
 use Rattle.basics.specs.Places.{sum}
+use Rattle.basics.proofs.Laws.{sum-from, sum-over}
 use Rattle.rows.proofs.rooms.total.Statement.{statement}
 use Rattle.rows.proofs.rooms.total.Tie as tie
-
-next : (l : List ℕ) (i : ℕ) → i < length l → sum (drop i l) ≡ getD l i 0 + sum (drop (i + 1) l)
-unfolding sum
-next l i h = rw (add-one i, drop-cons l i 0 h)
 
 abbrev Inv-loop : tie.InvT-loop
 Inv-loop counts entries₀ v₀ entries v = (v ≤ length counts) × (entries + sum (drop v counts) ≡ sum counts) × (entries ≤ v * 4294967296)
@@ -34,7 +28,7 @@ step c =
     let s = c .before .before .before in
     let counts : List ℕ = now (s .args .counts) in
     let i : l .v < length counts = c .before .loop-test .taken in
-    (next counts (l .v) i, omega (arith, c .shared-slice-known .given (l .v)), omega (arith, s .pre))
+    (sum-from counts (l .v) i, omega (arith, c .shared-slice-known .given (l .v)), omega (arith, s .pre))
 
 loop-holds : tie.Need-loop-holds Inv-loop μ-loop
 loop-holds c = omega arith
@@ -61,13 +55,12 @@ loop-again : tie.Need-loop-again Inv-loop μ-loop
 loop-again c = omega (arith, step c)
 
 returns : tie.Need-returns Inv-loop μ-loop
-unfolding sum
 returns c =
     let l = c .before .loop in
     let s = c .before .before in
     let counts : List ℕ = now (s .args .counts) in
     let most : length counts ≤ 4096 = s .pre in
-    let none : sum (drop (l .v) counts) ≡ 0 = ap sum (drop-of-length-le counts {i = l .v} (c .loop-test .left)) in
+    let none : sum (drop (l .v) counts) ≡ 0 = sum-over counts (l .v) (c .loop-test .left) in
     omega arith
 
 pub total-spec : {M : Type 1} → statement M
