@@ -24,9 +24,9 @@ unfoldable pub levelIn : ℕ → List ℕ → ℕ → ℕ
 levelIn B M v = cond (ltb 0 (getD M v 0)) (levelAt M v - 1) B
 
 module _ {n : ℕ} {S L : List ℕ} (block : Block n 1 S L ones) {drop : ℕ → ℕ → Bool} {hub : ℕ} (inside : hub < n)
-    {M Q : List ℕ} {t : ℕ} (b : Bfs n S L drop hub M Q t t) (B : ℕ) (above : n < B) (P : ℕ → ℕ)
-    (capped : (u : ℕ) → P u ≤ B)
-    (test : (u level : ℕ) → u < n → level < n → drop u level ≡ leb (P u) level) where
+    {M Q : List ℕ} {t : ℕ} (b : Bfs n S L drop hub M Q t t) (B : ℕ) (above : n < B) (A : ℕ → ℕ)
+    (capped : (u : ℕ) → A u ≤ B)
+    (test : (u level : ℕ) → u < n → level < n → drop u level ≡ leb (A u) level) where
   not-met : (v : ℕ) → getD M v 0 ≡ 0 → levelIn B M v ≡ B
   unfolding levelIn
   not-met v e = cond-false _ _ (le-ltb 0 (getD M v 0) (omega arith))
@@ -69,20 +69,20 @@ module _ {n : ℕ} {S L : List ℕ} (block : Block n 1 S L ones) {drop : ℕ →
       out e (not-met v e))
 
   -- kept: below the answer; dropped: not below it
-  kept-below : (v : ℕ) → v < n → Place v → Kept S L drop M v → levelIn B M v < P v
+  kept-below : (v : ℕ) → v < n → Place v → Kept S L drop M v → levelIn B M v < A v
   kept-below v h p k =
       let l : levelAt M v - 1 ≡ levelIn B M v = omega (arith, p .level) in
-      leb-false (P v) (levelIn B M v) (sym (test v (levelIn B M v) h (p .low)) ∙ ap (drop v) (sym l) ∙ k .free)
+      leb-false (A v) (levelIn B M v) (sym (test v (levelIn B M v) h (p .low)) ∙ ap (drop v) (sym l) ∙ k .free)
 
-  dropped-above : (v : ℕ) → v < n → Place v → Dropped drop M v → P v ≤ levelIn B M v
+  dropped-above : (v : ℕ) → v < n → Place v → Dropped drop M v → A v ≤ levelIn B M v
   dropped-above v h p d =
       let l : levelAt M v - 1 ≡ levelIn B M v = omega (arith, p .level) in
-      leb-true (P v) (levelIn B M v) (sym (test v (levelIn B M v) h (p .low)) ∙ ap (drop v) (sym l) ∙ d .found)
+      leb-true (A v) (levelIn B M v) (sym (test v (levelIn B M v) h (p .low)) ∙ ap (drop v) (sym l) ∙ d .found)
 
   cap : (v : ℕ) → v < n → levelIn B M v ≤ B
   cap v h = at-frame v h (λ e o. omega arith) (λ m p. omega (arith, p .low))
 
-  on : (u v : ℕ) → u < n → v < n → levelIn B M u < P u → levelIn B M v ≤ levelIn B M u + oneEach B (joined S L) u v
+  on : (u v : ℕ) → u < n → v < n → levelIn B M u < A u → levelIn B M v ≤ levelIn B M u + oneEach B (joined S L) u v
   on u v p q below =
       bcase (joined S L u v)
       (λ j.
@@ -100,7 +100,7 @@ module _ {n : ℕ} {S L : List ℕ} (block : Block n 1 S L ones) {drop : ℕ →
       (λ j. omega (arith, cap v q, cond-false {A = ℕ} 1 B j))
 
   from : (v : ℕ) → v < n → (v ≡ hub → ⊥) → levelIn B M v < B
-      → (u : ℕ) × (u < n) × (levelIn B M u < P u) × (levelIn B M v ≡ levelIn B M u + oneEach B (joined S L) u v)
+      → (u : ℕ) × (u < n) × (levelIn B M u < A u) × (levelIn B M v ≡ levelIn B M u + oneEach B (joined S L) u v)
   from v h other met =
       at-frame v h
       (λ e o. absurd (omega arith))
@@ -118,7 +118,7 @@ module _ {n : ℕ} {S L : List ℕ} (block : Block n 1 S L ones) {drop : ℕ →
       (λ k. (u, low, kept-below u low pu k, omega (arith, pu .level, pv .level)))
       (λ d. absurd (omega (arith, r .kept, d .marked)))))
 
-  pub bfs-met : Met B n (oneEach B (joined S L)) P hub (levelIn B M)
+  pub bfs-met : Met B n (oneEach B (joined S L)) A hub (levelIn B M)
   bfs-met =
       let first : 0 < getD M hub 0 = rw (b .first) at (b .line .is .marked 0 (b .some)) in
       record {
@@ -129,25 +129,25 @@ module _ {n : ℕ} {S L : List ℕ} (block : Block n 1 S L ones) {drop : ℕ →
       }
 
   -- the met room, place by place
-  room-at : (v : ℕ) → v < n → getD M v 0 ≡ mark B (levels B n (joined S L) P hub n v) (P v)
+  room-at : (v : ℕ) → v < n → getD M v 0 ≡ mark B (levels B n (joined S L) A hub n v) (A v)
   unfolding mark
   room-at v h =
-      let same : levelIn B M v ≡ levels B n (joined S L) P hub n v =
-      met-levels B n (joined S L) P hub inside above (levelIn B M) bfs-met v h in
+      let same : levelIn B M v ≡ levels B n (joined S L) A hub n v =
+      met-levels B n (joined S L) A hub inside above (levelIn B M) bfs-met v h in
       rw (← same)
       (at-frame v h
       (λ e o. e ∙ sym (cond-false _ _ (le-ltb (levelIn B M v) B (omega arith))))
       (λ m p.
       cases (p .done)
       (λ k.
-      rw (lt-ltb (levelIn B M v) B (omega (arith, p .low)), lt-ltb (levelIn B M v) (P v) (kept-below v h p k))
+      rw (lt-ltb (levelIn B M v) B (omega (arith, p .low)), lt-ltb (levelIn B M v) (A v) (kept-below v h p k))
       (omega (arith, p .level, k .plain)))
       (λ d.
-      rw (lt-ltb (levelIn B M v) B (omega (arith, p .low)), le-ltb (levelIn B M v) (P v) (dropped-above v h p d))
+      rw (lt-ltb (levelIn B M v) B (omega (arith, p .low)), le-ltb (levelIn B M v) (A v) (dropped-above v h p d))
       (omega (arith, p .level, d .marked, p .small)))))
 
-  pub bfs-room : M ≡ table n (λ v. mark B (levels B n (joined S L) P hub n v) (P v))
-  bfs-room = is-table 0 M n (λ v. mark B (levels B n (joined S L) P hub n v) (P v)) (b .long) room-at
+  pub bfs-room : M ≡ table n (λ v. mark B (levels B n (joined S L) A hub n v) (A v))
+  bfs-room = is-table 0 M n (λ v. mark B (levels B n (joined S L) A hub n v) (A v)) (b .long) room-at
 
 -- level j + 1 needs j frames before it in the queue
 pub bfs-low : {n : ℕ} {S L : List ℕ} {drop : ℕ → ℕ → Bool} {hub : ℕ} {M Q : List ℕ} {t : ℕ} → Bfs n S L drop hub M Q t t → Low M t

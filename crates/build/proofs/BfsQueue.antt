@@ -11,7 +11,7 @@ use Rattle.build.specs.Explore.{Queue, filled}
 
 -- ---- counting the filled places
 
-pub filled-most : (l : List ℕ) → filled l ≤ length l
+filled-most : (l : List ℕ) → filled l ≤ length l
 unfolding filled
 filled-most [] = omega arith
 filled-most (x ∷ xs) = omega (arith, filled-most xs)
@@ -33,10 +33,6 @@ filled-set (y ∷ ys) (suc v) x h = omega (arith, filled-set ys v x (omega arith
 module _ {M Q : List ℕ} {t : ℕ} (line : Queue M Q t) where
   pub room : (v : ℕ) → v < length M → getD M v 0 ≡ 0 → t < length M
   room v h e = omega (arith, filled-room M v h e, line .count)
-
-  -- the place of a frame that is met
-  pub place-of : (v : ℕ) → v < length M → 0 < getD M v 0 → (i : ℕ) × (i < t) × (getD Q i 0 ≡ v)
-  place-of = line .is .all
 
   module _ (v x : ℕ) (h : v < length M) (e : getD M v 0 ≡ 0) (some : 0 < x) where
     new-met : getD (set M v x) v 0 ≡ x

@@ -39,7 +39,6 @@ module _ {n w : ℕ} {S L labels counts : List ℕ} {hub : ℕ} {met queue noted
         frames = e .frames;
         width = e .width;
         labels-long = e .labels-long;
-        counts-long = e .counts-long;
         rows = e .rows;
         notes = omega (arith, noted-long, e .frames);
         frame = h;

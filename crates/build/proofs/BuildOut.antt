@@ -1,21 +1,18 @@
 -- The build's outcome: what is left when a test is refused, when a walk is refused, and when all walks are made.
-use Prim.Native.Nat.{ℕ, _+_, _*_, _≤_, _<_}
+use Prim.Native.Nat.{ℕ, _*_, _<_}
 use mathlib.Core.Path.{_≡_, refl, sym, ap, _∙_}
-use mathlib.Core.Bool.{Bool, true, false, cond}
 use mathlib.Core.List.{List}
 use native.Mathlib.Omega.{arith}
 use borrow.Author.Tests.{eqb-true}
 use lib.ListN.{length, replicate, length-replicate}
 use lib.Dec.{eqb}
 use Rattle.basics.specs.Places.{sum}
-use Rattle.refusal.specs.Numbers.{ROOM, FAR}
 use Rattle.refusal.specs.declared.Refusal.{Refusal}
 use Rattle.refusal.specs.declared.Verdict.{Verdict}
 use Rattle.refusal.specs.declared.Verdict.the-variants.{Fine, Refused}
 use Rattle.refusal.proofs.Laws.{test-held}
-use Rattle.theory.specs.Rows.{Row}
 use Rattle.theory.specs.Plain.{rowBy}
-use Rattle.build.specs.Build.{labelsOf, countsOf, fullAt, stopAt, walksTest, buildTests, MakeIn, RunIn, RunOut, Outcome, outcome, afterWalks, afterTests, buildOf, builtNumber, builtPlace, builtEntries}
+use Rattle.build.specs.Build.{labelsOf, countsOf, stopAt, walksTest, buildTests, MakeIn, RunIn, RunOut, Outcome, outcome, afterWalks, afterTests, buildOf, builtNumber, builtPlace, builtEntries}
 use Rattle.build.specs.declared.Built.{Built}
 use Rattle.build.specs.declared.Built.the-variants.{Entries, Refused as NotBuilt}
 use Rattle.build.proofs.BuildTests.{Passed, tests-fine}
@@ -33,10 +30,10 @@ at-end n w k S L O e = eqb-true (stopAt n w k S L O) k (test-held (eqb (stopAt n
 
 module _ {n w k : ℕ} {S L O labels counts met queue : List ℕ} (i : MakeIn n w k S L O labels counts met queue) where
   -- cleared rooms may be walked over
-  pub cleared : (labels′ counts′ met′ queue′ : List ℕ) → labels′ ≡ replicate (length labels) 0 → counts′ ≡ replicate (length counts) 0
+  pub cleared : {labels′ counts′ met′ queue′ : List ℕ} → labels′ ≡ replicate (length labels) 0 → counts′ ≡ replicate (length counts) 0
       → met′ ≡ replicate (length met) 0 → queue′ ≡ replicate (length queue) 0
       → RunIn (length counts′) w k S L O labels′ counts′ met′ queue′ (replicate 4096 65536)
-  cleared labels′ counts′ met′ queue′ l c m q =
+  cleared {counts′ = counts′} l c m q =
       let long : length counts′ ≡ n = ap length c ∙ length-replicate (length counts) 0 ∙ i .counts-long in
       rw long
       (record {
@@ -45,7 +42,6 @@ module _ {n w k : ℕ} {S L O labels counts met queue : List ℕ} (i : MakeIn n 
         width = i .width;
         stop = i .stop;
         block = i .block;
-        places = i .places;
         order = i .order;
         labels-zero = l ∙ ap (λ (j : ℕ). replicate j 0) (i .labels-long);
         counts-zero = c ∙ ap (λ (j : ℕ). replicate j 0) (i .counts-long);
@@ -60,19 +56,19 @@ module _ {n′ n w k : ℕ} {S L O : List ℕ} {verdict : Verdict} {labels count
   o = rw is at out
 
   -- a walk refused: every room 0
-  pub stopped-out : (r : Refusal) (labels′ counts′ : List ℕ) → verdict ≡ Refused r → labels′ ≡ replicate (n * w) 0
+  pub stopped-out : {r : Refusal} {labels′ counts′ : List ℕ} → verdict ≡ Refused r → labels′ ≡ replicate (n * w) 0
       → counts′ ≡ replicate n 0
       → outcome (NotBuilt r) labels′ counts′ met queue ≡ afterWalks n w (rowBy n S L O k) (walksTest n w k S L O)
   unfolding afterWalks
-  stopped-out r labels′ counts′ e l c =
+  stopped-out e l c =
       same-outcome refl l c (o .met-zero) (o .queue-zero)
       ∙ ap (afterWalks n w (rowBy n S L O k)) (sym e ∙ o .answer)
 
   -- all walks made: the rule's rows at k, and the sum of the counts
-  pub made-out : (entries : ℕ) → verdict ≡ Fine → entries ≡ sum counts
+  pub made-out : {entries : ℕ} → verdict ≡ Fine → entries ≡ sum counts
       → outcome (Entries entries) labels counts met queue ≡ afterWalks n w (rowBy n S L O k) (walksTest n w k S L O)
   unfolding afterWalks
-  made-out entries e all =
+  made-out e all =
       let at : stopAt n w k S L O ≡ k = at-end n w k S L O (sym (o .answer) ∙ e) in
       let numbers : counts ≡ countsOf n (rowBy n S L O k) = o .numbers ∙ ap (λ (r : ℕ). countsOf n (rowBy n S L O r)) at in
       same-outcome (ap Entries (all ∙ ap sum numbers)) (o .rows ∙ ap (λ (r : ℕ). labelsOf n w (rowBy n S L O r)) at) numbers
@@ -105,12 +101,11 @@ module _ (n w k : ℕ) (S L O labels counts met queue : List ℕ) where
         let p = passed in
         rw counts-are
         (record {
-          frames = p .sizes-fit .frames;
-          wide = p .sizes-fit .wide;
-          width = p .sizes-fit .width;
+          frames = p .sizes-fit .fit .frames;
+          wide = p .sizes-fit .fit .some-width;
+          width = p .sizes-fit .fit .width;
           stop = p .sizes-fit .stop;
           block = p .block;
-          places = p .sizes-fit .most;
           order = p .order;
           labels-long = p .rooms-fit .labels-long;
           counts-long = p .rooms-fit .counts-long;

@@ -1,7 +1,7 @@
 -- The build's tests before any walk: which refusal each gives, and what they show when all are passed.
-use Prim.Native.Nat.{ℕ, _+_, _*_, _≤_, _<_}
-use mathlib.Core.Path.{_≡_, refl, sym, ap, _∙_}
-use mathlib.Core.Bool.{Bool, true, false, _&&_}
+use Prim.Native.Nat.{ℕ, _+_, _*_, _≤_}
+use mathlib.Core.Path.{_≡_, sym, ap, _∙_}
+use mathlib.Core.Bool.{true, false, _&&_}
 use mathlib.Core.List.{List}
 use borrow.Author.Tests.{leb-true, eqb-true}
 use lib.ListN.{length}
@@ -20,14 +20,12 @@ use Rattle.links.specs.Order.{orderTest, checkOrder}
 use Rattle.links.proofs.Links.{links-alone, links-sound}
 use Rattle.links.proofs.Order.{order-alone, order-sound}
 use Rattle.rows.specs.Rooms.{sizesFit}
+use Rattle.rows.proofs.RoomLaws as room-laws
 use Rattle.build.specs.Build.{buildSizes, buildRooms, buildTests}
 
 -- test 1 passed
 pub record Sizes (n w k places : ℕ) : Type 0 where
-  pub one : 1 ≤ n
-  pub frames : n ≤ 4096
-  pub wide : 1 ≤ w
-  pub width : w ≤ 256
+  pub fit : room-laws.Sizes n w
   pub stop : k ≤ n
   pub most : places ≤ 65536
 
@@ -41,18 +39,12 @@ pub record Lengths (n w starts order labels counts met queue : ℕ) : Type 0 whe
   pub queue-long : queue ≡ n
 
 pub sizes-hold : (n w k places : ℕ) → buildSizes n w k places ≡ true → Sizes n w k places
-unfolding buildSizes sizesFit placesFit
+unfolding buildSizes placesFit
 sizes-hold n w k places e =
     let halves = both-true (sizesFit n w) (leb k n && leb places 65536) e in
-    let inner = both-true (leb 1 n && leb n 4096 && leb 1 w) (leb w 256) (halves .0) in
-    let frame = both-true (leb 1 n && leb n 4096) (leb 1 w) (inner .0) in
-    let count = both-true (leb 1 n) (leb n 4096) (frame .0) in
     let rest = both-true (leb k n) (leb places 65536) (halves .1) in
     record {
-      one = leb-true 1 n (count .0);
-      frames = leb-true n 4096 (count .1);
-      wide = leb-true 1 w (frame .1);
-      width = leb-true w 256 (inner .1);
+      fit = room-laws.sizes-held n w (halves .0);
       stop = leb-true k n (rest .0);
       most = leb-true places 65536 (rest .1);
     }
@@ -94,7 +86,7 @@ module _ (n w k : ℕ) (S L O : List ℕ) (labels counts met queue : ℕ) where
       rooms = rooms-hold n w (length S) (length O) labels counts met queue long
 
       links-are : checkLinks n S L ≡ (startsTest n S L then listsTest n S L)
-      links-are = links-alone n S L (sizes .one) (sizes .frames) (sizes .most) (rooms .starts-long)
+      links-are = links-alone n S L (sizes .fit .some-frames) (sizes .fit .frames) (sizes .most) (rooms .starts-long)
 
       rest : buildTests n w k S L O labels counts met queue ≡ (checkLinks n S L then orderTest n O)
       unfolding buildTests
@@ -111,7 +103,7 @@ module _ (n w k : ℕ) (S L O : List ℕ) (labels counts met queue : ℕ) where
       tests-order e =
           rest
           ∙ after-fine _ e
-          ∙ sym (order-alone n O (sizes .one) (sizes .frames) (rooms .order-long))
+          ∙ sym (order-alone n O (sizes .fit .some-frames) (sizes .fit .frames) (rooms .order-long))
 
   -- all passed
   pub record Passed : Type 0 where
@@ -133,6 +125,6 @@ module _ (n w k : ℕ) (S L O : List ℕ) (labels counts met queue : ℕ) where
       record {
         sizes-fit = s;
         rooms-fit = l;
-        block = links-sound n S L (d .0) (f .0) (s .one) (s .frames) (s .most) (l .starts-long);
+        block = links-sound n S L (d .0) (f .0) (s .fit .some-frames) (s .fit .frames) (s .most) (l .starts-long);
         order = order-sound n O (f .1) (l .order-long);
       }

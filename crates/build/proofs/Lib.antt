@@ -9,6 +9,7 @@ pub mod BfsWalk
 pub mod DropNotes
 pub mod DropWithin
 pub mod DropRow
+pub mod RoomClear
 pub mod RoomLaws
 pub mod RoomMarks
 pub mod RoomWalk

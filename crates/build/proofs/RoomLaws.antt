@@ -1,21 +1,20 @@
 -- The label room and the count room as tables of rows: what one more entry changes, when two are the same, and that a row
 -- is read back out of them as it was put.
-use Prim.Native.Nat.{ℕ, zero, suc, _+_, _-_, _*_, _/_, _%_, _≤_, _<_}
+use Prim.Native.Nat.{ℕ, suc, _+_, _*_, _/_, _%_, _≤_, _<_}
 use mathlib.Core.Path.{_≡_, refl, sym, ap, _∙_}
 use mathlib.Core.List.{List, [], _∷_, _++_}
-use native.Mathlib.Nat.{suc-mul, mul-le-mul-right, mod-lt, div-add-mod', div-lt-iff-lt-mul}
-use native.Mathlib.Numerals.{add-one}
+use native.Mathlib.Nat.{div-add-mod', div-lt-iff-lt-mul}
 use native.Mathlib.Decide.{ℕ-discrete}
 use native.Mathlib.Omega.{arith}
-use lib.ListN.{length, getD, set, take, drop, length-set, length-append, length-take, length-drop, List·getD-append, List·getD-eq-default}
+use lib.ListN.{length, getD, set, length-set, length-append, List·getD-append, List·getD-eq-default}
 use lib.Arith.{digits-div, digits-mod}
-use lib.Seq.{getD-at, getD-take, getD-drop, ext-getD}
+use lib.Seq.{getD-at, ext-getD}
 use Rattle.basics.specs.Places.{table}
 use Rattle.basics.proofs.Laws.{by-cases, three-ways, at-set, is-table, length-table, getD-table, table-ext}
 use Rattle.theory.specs.Rows.{Row}
-use Rattle.rows.specs.Entry.{entryOf, rankOf, joinsOf, encode, decode}
+use Rattle.rows.specs.Entry.{entryOf, encode}
 use Rattle.rows.specs.Rooms.{rowAt, part}
-use Rattle.rows.proofs.Laws.{length-encode, encode-append}
+use Rattle.rows.proofs.Laws.{length-encode, encode-append, row-inside, length-part, getD-part}
 use Rattle.build.specs.Build.{labelsOf, countsOf}
 
 -- ---- entries of a row
@@ -43,7 +42,7 @@ other-entry x a j h =
 
 -- place c of row v lies in the label room
 pub row-place : {n w v c : ℕ} → v < n → c < w → v * w + c < n * w
-row-place {n} {w} {v} {c} h k = omega (arith, suc-mul v w, mul-le-mul-right w h)
+row-place {n} {w} {v} {c} h k = omega (arith, row-inside {v = v} {n = n} {c = suc c} {w = w} h k)
 
 pub frame-of : {n w p : ℕ} → 1 ≤ w → p < n * w → p / w < n
 frame-of h k = div-lt-iff-lt-mul h .1 k
@@ -124,24 +123,21 @@ module _ (n w : ℕ) (R R′ : ℕ → Row) (v : ℕ) (a : ℕ × ℕ) (inside :
 
 -- the used part of row v holds the entries of v's row
 module _ (n w : ℕ) (R : ℕ → Row) (v c : ℕ) (h : v < n) (fits : c ≤ w) (is : length (R v) ≡ c) where
-  long : length (take c (drop (v * w) (labelsOf n w R))) ≡ c
-  long =
-      length-take c (drop (v * w) (labelsOf n w R))
-      ∙ omega (arith, length-drop (v * w) (labelsOf n w R), length-labels n w R, suc-mul v w, mul-le-mul-right w h)
+  long : length (part w (labelsOf n w R) v c) ≡ c
+  long = length-part w (labelsOf n w R) v c h fits (length-labels n w R)
 
-  entry-is : (i : ℕ) → i < c → getD (take c (drop (v * w) (labelsOf n w R))) i 0 ≡ getD (encode (R v)) i 0
+  entry-is : (i : ℕ) → i < c → getD (part w (labelsOf n w R) v c) i 0 ≡ getD (encode (R v)) i 0
   entry-is i low =
       let here : i < w = omega arith in
-      getD-take c (drop (v * w) (labelsOf n w R)) i 0 low
-      ∙ getD-drop (v * w) (labelsOf n w R) i 0
+      getD-part w (labelsOf n w R) v c i low
       ∙ label-at n w R (v * w + i) (row-place h here)
       ∙ rw (digits-div v here, digits-mod v here)
 
-  part-is : take c (drop (v * w) (labelsOf n w R)) ≡ encode (R v)
+  part-is : part w (labelsOf n w R) v c ≡ encode (R v)
   part-is =
-      ext-getD 0 (take c (drop (v * w) (labelsOf n w R))) (encode (R v)) (long ∙ sym is ∙ sym (length-encode (R v)))
+      ext-getD 0 (part w (labelsOf n w R) v c) (encode (R v)) (long ∙ sym is ∙ sym (length-encode (R v)))
       (λ i l. entry-is i (omega (arith, long)))
 
 pub row-is : (n w : ℕ) (R : ℕ → Row) (v : ℕ) → v < n → length (R v) ≤ w → rowAt w (labelsOf n w R) (countsOf n R) v ≡ encode (R v)
-unfolding rowAt part
+unfolding rowAt
 row-is n w R v h fits = rw (count-at n R v h) (part-is n w R v (length (R v)) h fits refl)

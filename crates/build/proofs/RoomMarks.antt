@@ -1,12 +1,12 @@
 -- Phase two told by the queue: a test of the queued frames is a test of all frames, and rows stored along the queue are the
 -- rows after the walk.
-use Prim.Native.Nat.{ℕ, zero, suc, _+_, _-_, _*_, _≤_, _<_}
+use Prim.Native.Nat.{ℕ, _+_, _-_, _*_, _≤_, _<_}
 use mathlib.Core.Path.{_≡_, refl, sym, ap, _∙_}
-use mathlib.Core.Bool.{Bool, true, false, cond, not, _&&_}
+use mathlib.Core.Bool.{Bool, true, false, cond, _&&_}
 use mathlib.Core.List.{List, [], _∷_, _++_}
 use native.Mathlib.Decide.{ℕ-discrete}
 use native.Mathlib.Omega.{arith}
-use borrow.Author.Tests.{lt-ltb, le-ltb, lt-leb, ltb-true, leb-true, leb-false, eq-eqb, ne-eqb, eqb-true}
+use borrow.Author.Tests.{lt-ltb, le-ltb, ltb-true, leb-false, eq-eqb, ne-eqb, eqb-true}
 use lib.ListN.{length, getD, set}
 use lib.Dec.{leb, ltb, eqb}
 use Rattle.basics.specs.Places.{some}
@@ -14,8 +14,8 @@ use Rattle.basics.proofs.Laws.{bcase, by-cases, lt-or-ge, not-both, both, both-
 use Rattle.theory.specs.Rows.{Row}
 use Rattle.rows.specs.Entry.{entryOf}
 use Rattle.build.specs.Build.{labelsOf, countsOf}
-use Rattle.build.specs.Explore.{Queued, Low}
-use Rattle.build.specs.Settle.{rowsIn, Laid, isKept, lacksRoom, isFar, fitsAll, noneFar, gain, rowsAfter, SettleIn, settleOf}
+use Rattle.build.specs.Explore.{Queued}
+use Rattle.build.specs.Settle.{rowsIn, isKept, lacksRoom, isFar, fitsAll, noneFar, gain, rowsAfter, labelsAfter, countsAfter, SettleIn, settleOf}
 use Rattle.build.specs.declared.settle.Walked.the-variants.{Made, Full}
 use Rattle.build.proofs.RoomLaws.{labels-gain, counts-gain, labels-ext, counts-ext, count-at}
 
@@ -48,7 +48,7 @@ kept-room w count m e k = leb-false w count (sym (ap (λ (b : Bool). b && leb w 
 -- ---- tests along the queue
 
 -- a fault that only kept frames can have, and no queued frame has, no frame has
-module _ (met queue : List ℕ) (tail : ℕ) (q : Queued met queue tail) (bad : ℕ → Bool) where
+module _ {met queue : List ℕ} {tail : ℕ} (q : Queued met queue tail) (bad : ℕ → Bool) where
   none-bad : ((v : ℕ) → bad v ≡ true → isKept (getD met v 0) ≡ true) → ((j : ℕ) → j < tail → bad (getD queue j 0) ≡ false)
       → some bad 0 (length met) ≡ false
   none-bad only none =
@@ -63,20 +63,19 @@ module _ (met queue : List ℕ) (tail : ℕ) (q : Queued met queue tail) (bad : 
   one-bad : (j : ℕ) → j < tail → bad (getD queue j 0) ≡ true → some bad 0 (length met) ≡ true
   one-bad j h e = some-one bad 0 (length met) (getD queue j 0) (omega arith) (omega (arith, q .low j h)) e
 
-module _ (w : ℕ) (counts met queue : List ℕ) (tail : ℕ) (q : Queued met queue tail) where
+module _ (w : ℕ) (counts : List ℕ) {met queue : List ℕ} {tail : ℕ} (q : Queued met queue tail) where
   pub fits-done : ((j : ℕ) → j < tail → lacksRoom w (getD counts (getD queue j 0) 0) (getD met (getD queue j 0) 0) ≡ false)
       → fitsAll w counts met ≡ true
   unfolding fitsAll lacksRoom
   fits-done none =
       not-of-false
-      (none-bad met queue tail q (λ v. isKept (getD met v 0) && leb w (getD counts v 0))
+      (none-bad q (λ v. isKept (getD met v 0) && leb w (getD counts v 0))
       (λ v e. both-true (isKept (getD met v 0)) (leb w (getD counts v 0)) e .0) none)
 
   pub fits-not : (j : ℕ) → j < tail → lacksRoom w (getD counts (getD queue j 0) 0) (getD met (getD queue j 0) 0) ≡ true
       → fitsAll w counts met ≡ false
   unfolding fitsAll
-  fits-not j h e =
-      not-of-true (one-bad met queue tail q (λ v. lacksRoom w (getD counts v 0) (getD met v 0)) j h e)
+  fits-not j h e = not-of-true (one-bad q (λ v. lacksRoom w (getD counts v 0) (getD met v 0)) j h e)
 
 pub fits-each : (w : ℕ) (counts met : List ℕ) (v : ℕ) → fitsAll w counts met ≡ true → v < length met
     → lacksRoom w (getD counts v 0) (getD met v 0) ≡ false
@@ -94,6 +93,10 @@ stood queue i v = some (λ j. eqb (getD queue j 0) v) 0 i
 -- the rows when the first i frames of the queue have theirs from R′ and the others still from R
 unfoldable pub partly : List ℕ → ℕ → (ℕ → Row) → (ℕ → Row) → ℕ → Row
 partly queue i R R′ v = cond (stood queue i v) (R′ v) (R v)
+
+-- these rows before and after the walk of this rank
+abbrev pub upto : ℕ → ℕ → List ℕ → List ℕ → List ℕ → List ℕ → ℕ → ℕ → Row
+upto w rank labels counts met queue i = partly queue i (rowsIn w labels counts) (rowsAfter w rank labels counts met)
 
 module _ (queue : List ℕ) (R R′ : ℕ → Row) where
   pub partly-none : (v : ℕ) → partly queue 0 R R′ v ≡ R v
@@ -138,8 +141,7 @@ module _ (queue : List ℕ) (R R′ : ℕ → Row) where
 
   pub partly-same : (tail v : ℕ) → R′ v ≡ R v → partly queue tail R R′ v ≡ R′ v
   unfolding partly
-  partly-same tail v e =
-      bcase (stood queue tail v) (λ b. cond-true _ _ b) (λ b. cond-false _ _ b ∙ sym e)
+  partly-same tail v e = bcase (stood queue tail v) (λ b. cond-true _ _ b) (λ b. cond-false _ _ b ∙ sym e)
 
 -- ---- the rows after the walk
 
@@ -153,38 +155,35 @@ module _ (w rank : ℕ) (labels counts met : List ℕ) where
   unfolding rowsAfter gain
   after-not v e = cond-false _ _ e
 
-module _ (w rank : ℕ) (labels counts met queue : List ℕ) (tail : ℕ) (s : SettleIn w labels counts met queue tail)
+module _ (rank : ℕ) {w : ℕ} {labels counts met queue : List ℕ} {tail : ℕ} (s : SettleIn w labels counts met queue tail)
     (fit : fitsAll w counts met ≡ true) where
-  abbrev before : ℕ → Row
+  abbrev pub before : ℕ → Row
   before = rowsIn w labels counts
 
-  abbrev after : ℕ → Row
+  abbrev pub after : ℕ → Row
   after = rowsAfter w rank labels counts met
 
+  abbrev pub turn : ℕ → ℕ → Row
+  turn = upto w rank labels counts met queue
+
   -- a kept frame has room for one more entry
-  pub room-left : (v : ℕ) → v < length met → isKept (getD met v 0) ≡ true → length (rowsIn w labels counts v) < w
+  pub room-left : (v : ℕ) → v < length met → isKept (getD met v 0) ≡ true → length (before v) < w
   room-left v h k =
       let few : getD counts v 0 < w = kept-room w (getD counts v 0) (getD met v 0) (fits-each w counts met v fit h) k in
-      let is : getD counts v 0 ≡ length (rowsIn w labels counts v) =
-      ap (λ (l : List ℕ). getD l v 0) (s .laid .numbers) ∙ count-at (length met) (rowsIn w labels counts) v h in
+      let is : getD counts v 0 ≡ length (before v) =
+      ap (λ (l : List ℕ). getD l v 0) (s .laid .numbers) ∙ count-at (length met) before v h in
       omega arith
 
   -- at its turn a frame's row is still the one before the walk
-  pub still : (i : ℕ) → i < tail
-      → partly queue i (rowsIn w labels counts) (rowsAfter w rank labels counts met) (getD queue i 0)
-      ≡ rowsIn w labels counts (getD queue i 0)
+  pub still : (i : ℕ) → i < tail → turn i (getD queue i 0) ≡ before (getD queue i 0)
   still i h = partly-before queue before after i (λ j l. s .queued .once j i l h)
 
   -- the rows of the other frames stay at that turn
-  others : (i u : ℕ) → (u ≡ getD queue i 0 → ⊥)
-      → partly queue (i + 1) (rowsIn w labels counts) (rowsAfter w rank labels counts met) u
-      ≡ partly queue i (rowsIn w labels counts) (rowsAfter w rank labels counts met) u
+  others : (i u : ℕ) → (u ≡ getD queue i 0 → ⊥) → turn (i + 1) u ≡ turn i u
   others i u ne = partly-other queue before after i u (λ e. ne (sym e))
 
   -- a dropped frame's turn changes nothing
-  idle : (i : ℕ) → i < tail → isKept (getD met (getD queue i 0) 0) ≡ false → (u : ℕ)
-      → partly queue i (rowsIn w labels counts) (rowsAfter w rank labels counts met) u
-      ≡ partly queue (i + 1) (rowsIn w labels counts) (rowsAfter w rank labels counts met) u
+  idle : (i : ℕ) → i < tail → isKept (getD met (getD queue i 0) 0) ≡ false → (u : ℕ) → turn i u ≡ turn (i + 1) u
   idle i h k u =
       by-cases (ℕ-discrete u (getD queue i 0))
       (λ (e : u ≡ getD queue i 0).
@@ -193,41 +192,37 @@ module _ (w rank : ℕ) (labels counts met queue : List ℕ) (tail : ℕ) (s : S
 
   -- a kept frame's turn puts (rank, level) behind its row
   grown : (i : ℕ) → i < tail → isKept (getD met (getD queue i 0) 0) ≡ true
-      → partly queue (i + 1) (rowsIn w labels counts) (rowsAfter w rank labels counts met) (getD queue i 0)
-      ≡ partly queue i (rowsIn w labels counts) (rowsAfter w rank labels counts met) (getD queue i 0)
-      ++ ((rank, getD met (getD queue i 0) 0 - 1) ∷ [])
+      → turn (i + 1) (getD queue i 0) ≡ turn i (getD queue i 0) ++ ((rank, getD met (getD queue i 0) 0 - 1) ∷ [])
   grown i h k =
       partly-after queue before after i
       ∙ after-kept w rank labels counts met (getD queue i 0) k
       ∙ ap (λ (x : Row). x ++ ((rank, getD met (getD queue i 0) 0 - 1) ∷ [])) (sym (still i h))
 
   -- what a turn stores in the label room
-  pub labels-step : (i : ℕ) (L C : List ℕ) → i < tail
-      → L ≡ labelsOf (length met) w (partly queue i (rowsIn w labels counts) (rowsAfter w rank labels counts met))
-      → C ≡ countsOf (length met) (partly queue i (rowsIn w labels counts) (rowsAfter w rank labels counts met))
+  pub labels-step : (i : ℕ) (L C : List ℕ) → i < tail → L ≡ labelsOf (length met) w (turn i)
+      → C ≡ countsOf (length met) (turn i)
       → cond (isKept (getD met (getD queue i 0) 0))
       (set L (getD queue i 0 * w + getD C (getD queue i 0) 0) (entryOf rank (getD met (getD queue i 0) 0 - 1))) L
-      ≡ labelsOf (length met) w (partly queue (i + 1) (rowsIn w labels counts) (rowsAfter w rank labels counts met))
+      ≡ labelsOf (length met) w (turn (i + 1))
   labels-step i L C h p q =
       let v : ℕ = getD queue i 0 in
       let low : v < length met = s .queued .low i h in
       rw (p, q)
       (bcase (isKept (getD met v 0))
       (λ k.
-      let room : length (partly queue i before after v) < w = rw (still i h) (room-left v low k) in
+      let room : length (turn i v) < w = rw (still i h) (room-left v low k) in
       cond-true _ _ k
-      ∙ rw (count-at (length met) (partly queue i before after) v low)
-      (labels-gain (length met) w (partly queue i before after) (partly queue (i + 1) before after) v (rank, getD met v 0 - 1) low
+      ∙ rw (count-at (length met) (turn i) v low)
+      (labels-gain (length met) w (turn i) (turn (i + 1)) v (rank, getD met v 0 - 1) low
       (grown i h k) (others i) room))
       (λ k.
       cond-false _ _ k
-      ∙ labels-ext (length met) w (partly queue i before after) (partly queue (i + 1) before after) (s .wide) (λ u l. idle i h k u)))
+      ∙ labels-ext (length met) w (turn i) (turn (i + 1)) (s .wide) (λ u l. idle i h k u)))
 
   -- what it stores in the count room
-  pub counts-step : (i : ℕ) (C : List ℕ) → i < tail
-      → C ≡ countsOf (length met) (partly queue i (rowsIn w labels counts) (rowsAfter w rank labels counts met))
+  pub counts-step : (i : ℕ) (C : List ℕ) → i < tail → C ≡ countsOf (length met) (turn i)
       → cond (isKept (getD met (getD queue i 0) 0)) (set C (getD queue i 0) (getD C (getD queue i 0) 0 + 1)) C
-      ≡ countsOf (length met) (partly queue (i + 1) (rowsIn w labels counts) (rowsAfter w rank labels counts met))
+      ≡ countsOf (length met) (turn (i + 1))
   counts-step i C h q =
       let v : ℕ = getD queue i 0 in
       let low : v < length met = s .queued .low i h in
@@ -235,20 +230,34 @@ module _ (w rank : ℕ) (labels counts met queue : List ℕ) (tail : ℕ) (s : S
       (bcase (isKept (getD met v 0))
       (λ k.
       cond-true _ _ k
-      ∙ rw (count-at (length met) (partly queue i before after) v low)
-      (counts-gain (length met) w (partly queue i before after) (partly queue (i + 1) before after) v (rank, getD met v 0 - 1) low
+      ∙ rw (count-at (length met) (turn i) v low)
+      (counts-gain (length met) w (turn i) (turn (i + 1)) v (rank, getD met v 0 - 1) low
       (grown i h k) (others i)))
       (λ k.
       cond-false _ _ k
-      ∙ counts-ext (length met) (partly queue i before after) (partly queue (i + 1) before after) (λ u l. idle i h k u)))
+      ∙ counts-ext (length met) (turn i) (turn (i + 1)) (λ u l. idle i h k u)))
+
+  -- before any turn the rooms hold the rows before the walk
+  pub labels-begin : labels ≡ labelsOf (length met) w (turn 0)
+  labels-begin =
+      s .laid .places
+      ∙ labels-ext (length met) w before (turn 0) (s .wide) (λ v h. sym (partly-none queue before after v))
+
+  pub counts-begin : counts ≡ countsOf (length met) (turn 0)
+  counts-begin = s .laid .numbers ∙ counts-ext (length met) before (turn 0) (λ v h. sym (partly-none queue before after v))
 
   -- when all have had their turn the rows are those after the walk: a frame not met gets nothing
-  pub all-turns : (v : ℕ) → v < length met
-      → partly queue tail (rowsIn w labels counts) (rowsAfter w rank labels counts met) v ≡ rowsAfter w rank labels counts met v
+  all-turns : (v : ℕ) → v < length met → turn tail v ≡ after v
   all-turns v h =
       bcase (isKept (getD met v 0))
       (λ k. partly-all queue before after tail v (s .queued .all v h (kept-met (getD met v 0) k)))
       (λ k. partly-same queue before after tail v (after-not w rank labels counts met v k))
+
+  pub labels-end : labelsOf (length met) w (turn tail) ≡ labelsAfter w rank labels counts met
+  labels-end = labels-ext (length met) w (turn tail) after (s .wide) all-turns
+
+  pub counts-end : countsOf (length met) (turn tail) ≡ countsAfter w rank labels counts met
+  counts-end = counts-ext (length met) (turn tail) after all-turns
 
 -- ---- which way the walk ends
 

@@ -1,19 +1,17 @@
 -- The met room as the first half of a walk leaves it, read by the second half: its marks say what the levels say, so what
 -- is stored are the rows after the walk.
-use Prim.Native.Nat.{ℕ, zero, suc, _+_, _-_, _*_, _≤_, _<_}
+use Prim.Native.Nat.{ℕ, _+_, _-_, _≤_, _<_}
 use mathlib.Core.Path.{_≡_, refl, sym, ap, _∙_}
-use mathlib.Core.Bool.{Bool, true, false, cond, not, _&&_}
+use mathlib.Core.Bool.{Bool, cond, not, _&&_}
 use mathlib.Core.List.{List, [], _∷_, _++_}
 use native.Mathlib.Omega.{arith}
-use borrow.Author.Tests.{lt-ltb, le-ltb, ltb-true, ltb-false}
+use borrow.Author.Tests.{lt-ltb, le-ltb, ltb-true}
 use lib.ListN.{length, getD, replicate}
 use lib.Dec.{leb, ltb}
-use Rattle.basics.specs.Places.{some, least}
 use Rattle.basics.proofs.Laws.{bcase, lt-or-ge, same-truth, cond-true, cond-false, some-ext, least-most, length-table, getD-table}
 use Rattle.theory.specs.Distance.{far}
 use Rattle.theory.specs.Rows.{Row, answer, keep}
-use Rattle.theory.specs.Walk.{levels, walkRow}
-use Rattle.theory.specs.Plain.{joined}
+use Rattle.theory.specs.Walk.{walkRow}
 use Rattle.build.specs.Build.{labelsOf, countsOf}
 use Rattle.build.specs.Walk.{soFar, levelOf, kept, mark, metRoom, walkFits}
 use Rattle.build.specs.Explore.{ExploreIn}
@@ -80,64 +78,68 @@ module _ (most level answered : ℕ) (few : most < 65535) (cap : answered ≤ mo
 
 module _ {n w : ℕ} {S L labels counts : List ℕ} {hub : ℕ} {met₀ queue₀ noted : List ℕ}
     (given : ExploreIn n w S L labels counts hub met₀ queue₀ noted) where
-  length-met : length (metRoom n w S L labels counts hub) ≡ n
-  unfolding metRoom
-  length-met =
-      length-table n (λ v. mark (far 1 n) (levelOf n w S L labels counts hub v) (soFar n w labels counts hub v))
+  abbrev pub level : ℕ → ℕ
+  level = levelOf n w S L labels counts hub
 
-  met-at : (v : ℕ) → v < n
-      → getD (metRoom n w S L labels counts hub) v 0
-      ≡ mark (far 1 n) (levelOf n w S L labels counts hub v) (soFar n w labels counts hub v)
+  abbrev pub answered : ℕ → ℕ
+  answered = soFar n w labels counts hub
+
+  abbrev pub found : List ℕ
+  found = metRoom n w S L labels counts hub
+
+  length-met : length found ≡ n
   unfolding metRoom
-  met-at v h =
-      getD-table n (λ u. mark (far 1 n) (levelOf n w S L labels counts hub u) (soFar n w labels counts hub u)) v 0 h
+  length-met = length-table n (λ v. mark (far 1 n) (level v) (answered v))
+
+  met-at : (v : ℕ) → v < n → getD found v 0 ≡ mark (far 1 n) (level v) (answered v)
+  unfolding metRoom
+  met-at v h = getD-table n (λ u. mark (far 1 n) (level u) (answered u)) v 0 h
 
   few : far 1 n < 65535
   unfolding far
   few = omega (arith, given .frames)
 
-  so-far-cap : (v : ℕ) → soFar n w labels counts hub v ≤ far 1 n
+  so-far-cap : (v : ℕ) → answered v ≤ far 1 n
   unfolding soFar answer
   so-far-cap v = least-most (far 1 n) n _
 
-  fits-is : fitsAll w counts (metRoom n w S L labels counts hub) ≡ walkFits n w S L labels counts hub
+  fits-is : fitsAll w counts found ≡ walkFits n w S L labels counts hub
   unfolding fitsAll walkFits kept
   fits-is =
       rw length-met
       (ap not
-      (some-ext _ (λ v. ltb (levelOf n w S L labels counts hub v) (soFar n w labels counts hub v) && leb w (getD counts v 0)) 0 n
+      (some-ext _ (λ v. ltb (level v) (answered v) && leb w (getD counts v 0)) 0 n
       (λ v l h.
       ap (lacksRoom w (getD counts v 0)) (met-at v (omega arith))
-      ∙ lacks-is (far 1 n) (levelOf n w S L labels counts hub v) (soFar n w labels counts hub v) few (so-far-cap v) w (getD counts v 0))))
+      ∙ lacks-is (far 1 n) (level v) (answered v) few (so-far-cap v) w (getD counts v 0))))
 
-  none-far-is : noneFar (metRoom n w S L labels counts hub) ≡ walkNear n w S L labels counts hub
+  none-far-is : noneFar found ≡ walkNear n w S L labels counts hub
   unfolding noneFar walkNear kept
   none-far-is =
       rw length-met
       (ap not
       (some-ext _
-      (λ v. ltb (levelOf n w S L labels counts hub v) (soFar n w labels counts hub v) && ltb 4095 (levelOf n w S L labels counts hub v)) 0 n
+      (λ v. ltb (level v) (answered v) && ltb 4095 (level v)) 0 n
       (λ v l h.
       ap isFar (met-at v (omega arith))
-      ∙ far-is (far 1 n) (levelOf n w S L labels counts hub v) (soFar n w labels counts hub v) few (so-far-cap v))))
+      ∙ far-is (far 1 n) (level v) (answered v) few (so-far-cap v))))
 
-  settle-is : settleOf w counts (metRoom n w S L labels counts hub) ≡ walkOf n w S L labels counts hub
+  settle-is : settleOf w counts found ≡ walkOf n w S L labels counts hub
   unfolding settleOf walkOf
   settle-is =
-      ap (λ (b : Bool). cond b (cond (noneFar (metRoom n w S L labels counts hub)) Made Far) Full) fits-is
+      ap (λ (b : Bool). cond b (cond (noneFar found) Made Far) Full) fits-is
       ∙ ap (λ (b : Bool). cond (walkFits n w S L labels counts hub) (cond b Made Far) Full) none-far-is
 
   -- the rows stored are those after the walk
-  rows-are : (rank v : ℕ) → v < n
-      → rowsAfter w rank labels counts (metRoom n w S L labels counts hub) v ≡ walkedRows n w S L labels counts rank hub v
+  rows-are : (rank v : ℕ) → v < n → rowsAfter w rank labels counts found v ≡ walkedRows n w S L labels counts rank hub v
   unfolding rowsAfter walkedRows walkRow levelOf soFar rowsIn
   rows-are rank v h =
       ap (λ (m : ℕ). gain rank m (rowsIn w labels counts v)) (met-at v h)
-      ∙ gain-keep (far 1 n) (levelOf n w S L labels counts hub v) (soFar n w labels counts hub v) few (so-far-cap v) rank
+      ∙ gain-keep (far 1 n) (level v) (answered v) few (so-far-cap v) rank
       (rowsIn w labels counts v)
 
   -- the same for a met room that is the one the first half leaves
-  module _ {met : List ℕ} (is : met ≡ metRoom n w S L labels counts hub) where
+  module _ {met : List ℕ} (is : met ≡ found) where
     pub met-long : length met ≡ n
     met-long = ap length is ∙ length-met
 
@@ -159,8 +161,7 @@ module _ {n w : ℕ} {S L labels counts : List ℕ} {hub : ℕ} {met₀ queue₀
         rw met-long (counts-ext n (rowsAfter w rank labels counts met) (walkedRows n w S L labels counts rank hub) (after-is rank))
 
     -- what the second half leaves, told by levels
-    pub walk-left : (rank : ℕ) → {walked : Walked} {labels′ counts′ met′ queue′ : List ℕ}
-        → walked ≡ settleOf w counts met
+    pub walk-left : (rank : ℕ) → {walked : Walked} {labels′ counts′ met′ queue′ : List ℕ} → walked ≡ settleOf w counts met
         → labels′ ≡ ifMade walked (labelsOf (length met) w (rowsAfter w rank labels counts met)) labels
         → counts′ ≡ ifMade walked (countsOf (length met) (rowsAfter w rank labels counts met)) counts
         → met′ ≡ replicate (length met) 0 → queue′ ≡ replicate (length met) 0

@@ -1,40 +1,38 @@
 -- The run of walks by the row rule: rooms that hold the rule's rows at rank r are sound and hold nothing else, the walk of
 -- rank r over them makes the rows at r + 1, and it is refused exactly where the rule's rows are over W or over 4,095 joins.
-use Prim.Native.Nat.{ℕ, zero, suc, _+_, _-_, _*_, _≤_, _<_}
-use mathlib.Core.Path.{_≡_, refl, sym, ap, subst, _∙_}
-use mathlib.Core.Bool.{Bool, true, false, cond, not, _&&_, _||_}
+use Prim.Native.Nat.{ℕ, suc, _≤_, _<_}
+use mathlib.Core.Path.{_≡_, refl, sym, ap, _∙_}
+use mathlib.Core.Bool.{Bool, cond, not, _&&_}
 use mathlib.Core.List.{List, [], _∷_, _++_}
 use native.Mathlib.Omega.{arith}
-use borrow.Author.Tests.{lt-ltb, le-ltb, ltb-true, le-leb, lt-leb, leb-true}
+use borrow.Author.Tests.{lt-ltb, le-ltb, ltb-true, le-leb, leb-true}
 use lib.ListN.{length, getD, length-append}
 use lib.Dec.{leb, ltb}
-use Rattle.basics.specs.Places.{some}
-use Rattle.basics.proofs.Laws.{bcase, same-truth, cond-true, cond-false, some-ext}
+use Rattle.basics.proofs.Laws.{bcase, same-truth, some-ext}
 use Rattle.theory.specs.Distance.{far}
 use Rattle.theory.specs.Links.{Block, Order, hubOf}
-use Rattle.theory.specs.Rows.{Row, hubs, keep, ruleRow, answer}
+use Rattle.theory.specs.Rows.{Row, hubs, keep, ruleRow}
 use Rattle.theory.specs.Walk.{walkRow}
-use Rattle.theory.specs.Plain.{ones, joined, joinsTo, rowBy}
+use Rattle.theory.specs.Plain.{ones, joinsTo, rowBy}
 use Rattle.theory.proofs.Rule.{rankAt, joinsAt, snoc-last}
 use Rattle.theory.proofs.Plain.{plain-rising, plain-places, walk-out}
-use Rattle.rows.specs.Entry.{entryOf, rankOf, decode, encode}
+use Rattle.rows.specs.Entry.{rankOf, decode}
 use Rattle.rows.specs.Rooms.{rowAt}
 use Rattle.rows.proofs.Laws.{Fits, fits-none, fits-more, decode-encode, rank-entry, getD-encode}
 use Rattle.build.specs.Build.{labelsOf, countsOf, fullAt, farFrame, farAt}
 use Rattle.build.specs.Explore.{SoundRows}
 use Rattle.build.specs.Walk.{soFar, levelOf, kept, walkFits}
 use Rattle.build.specs.Settle.{rowsIn, Laid, walkedRows, walkNear, walkOf}
-use Rattle.build.specs.declared.settle.Walked.{Walked}
 use Rattle.build.specs.declared.settle.Walked.the-variants.{Made, Full, Far}
 use Rattle.build.proofs.RoomLaws.{row-is, labels-ext, counts-ext, count-at}
 
 -- ---- one kept entry
 
 -- a row of at most w entries is over w with one more exactly if it has w and gets one
-over-width : (r m p w : ℕ) (x : Row) → length x ≤ w → ltb m p && leb w (length x) ≡ ltb w (length (keep r m p x))
+over-width : (r m a w : ℕ) (x : Row) → length x ≤ w → ltb m a && leb w (length x) ≡ ltb w (length (keep r m a x))
 unfolding keep
-over-width r m p w x fits =
-    bcase (ltb m p)
+over-width r m a w x fits =
+    bcase (ltb m a)
     (λ e.
     rw e
     (same-truth (leb w (length x)) (ltb w (length (x ++ ((r, m) ∷ []))))
@@ -43,12 +41,12 @@ over-width r m p w x fits =
     (λ e. rw e (sym (le-ltb w (length x) fits)))
 
 -- two entries behind the same row that give the same row are the same, or neither is there
-kept-same : (r m p m′ p′ : ℕ) (x : Row) (b : ℕ → Bool) → keep r m p x ≡ keep r m′ p′ x → ltb m p && b m ≡ ltb m′ p′ && b m′
+kept-same : (r m a m′ a′ : ℕ) (x : Row) (b : ℕ → Bool) → keep r m a x ≡ keep r m′ a′ x → ltb m a && b m ≡ ltb m′ a′ && b m′
 unfolding keep
-kept-same r m p m′ p′ x b =
-    bcase (ltb m p)
+kept-same r m a m′ a′ x b =
+    bcase (ltb m a)
     (λ e.
-    bcase (ltb m′ p′)
+    bcase (ltb m′ a′)
     (λ f.
     rw (e, f)
     (λ (same : x ++ ((r, m) ∷ []) ≡ x ++ ((r, m′) ∷ [])).
@@ -60,7 +58,7 @@ kept-same r m p m′ p′ x b =
     rw (e, f)
     (λ (same : x ++ ((r, m) ∷ []) ≡ x). absurd (omega (arith, ap length same, length-append x ((r, m) ∷ []))))))
     (λ e.
-    bcase (ltb m′ p′)
+    bcase (ltb m′ a′)
     (λ f.
     rw (e, f)
     (λ (same : x ≡ x ++ ((r, m′) ∷ [])). absurd (omega (arith, ap length same, length-append x ((r, m′) ∷ [])))))
@@ -75,103 +73,107 @@ fits-places (e ∷ x) all =
 
 -- ---- rooms that hold the rule's rows at rank r
 
-module _ {n : ℕ} {S L O : List ℕ} (block : Block n 1 S L ones) (order : Order n O) (w r : ℕ) (frames : n ≤ 4096)
-    (wide : 1 ≤ w) (below : r ≤ n) (fit : (v : ℕ) → v < n → length (rowBy n S L O r v) ≤ w) where
-  rule-fits : (v : ℕ) → v < n → Fits (rowBy n S L O r v)
+-- a block, an order, and rows of the rule at rank r that are at most w long
+pub record Ruled (n w : ℕ) (S L O : List ℕ) (r : ℕ) : Type 0 where
+  pub block : Block n 1 S L ones
+  pub order : Order n O
+  pub frames : n ≤ 4096
+  pub wide : 1 ≤ w
+  pub below : r ≤ n
+  pub fit : (v : ℕ) → v < n → length (rowBy n S L O r v) ≤ w
+
+module _ {n w : ℕ} {S L O : List ℕ} {r : ℕ} (g : Ruled n w S L O r) where
+  abbrev pub rows : ℕ → Row
+  rows = rowBy n S L O r
+
+  abbrev pub labels : List ℕ
+  labels = labelsOf n w (rowBy n S L O r)
+
+  abbrev pub counts : List ℕ
+  counts = countsOf n (rowBy n S L O r)
+
+  rule-fits : (v : ℕ) → v < n → Fits (rows v)
   rule-fits v h =
-      fits-places (rowBy n S L O r v)
+      fits-places (rows v)
       (λ i l.
-      let at : (rankAt (rowBy n S L O r v) i < r) × (joinsAt (rowBy n S L O r v) i < n) = plain-places block order r v i below h l in
+      let at : (rankAt (rows v) i < r) × (joinsAt (rows v) i < n) = plain-places (g .block) (g .order) r v i (g .below) h l in
       (omega arith, omega arith))
 
-  pub rows-back : (v : ℕ) → v < n
-      → rowsIn w (labelsOf n w (rowBy n S L O r)) (countsOf n (rowBy n S L O r)) v ≡ rowBy n S L O r v
+  pub rows-back : (v : ℕ) → v < n → rowsIn w labels counts v ≡ rows v
   unfolding rowsIn
-  rows-back v h = ap decode (row-is n w (rowBy n S L O r) v h (fit v h)) ∙ decode-encode (rule-fits v h)
+  rows-back v h = ap decode (row-is n w rows v h (g .fit v h)) ∙ decode-encode (rule-fits v h)
 
-  pub laid-back : Laid n w (labelsOf n w (rowBy n S L O r)) (countsOf n (rowBy n S L O r))
+  pub laid-back : Laid n w labels counts
   laid-back =
       record {
         places =
-            labels-ext n w (rowBy n S L O r) (rowsIn w (labelsOf n w (rowBy n S L O r)) (countsOf n (rowBy n S L O r))) wide
-            (λ v h. sym (rows-back v h));
+            labels-ext n w rows (rowsIn w labels counts) (g .wide) (λ v h. sym (rows-back v h));
         numbers =
-            counts-ext n (rowBy n S L O r) (rowsIn w (labelsOf n w (rowBy n S L O r)) (countsOf n (rowBy n S L O r)))
-            (λ v h. sym (rows-back v h));
+            counts-ext n rows (rowsIn w labels counts) (λ v h. sym (rows-back v h));
       }
 
-  rank-back : (v i : ℕ) → v < n → i < length (rowBy n S L O r v)
-      → rankOf (getD (rowAt w (labelsOf n w (rowBy n S L O r)) (countsOf n (rowBy n S L O r)) v) i 0) ≡ rankAt (rowBy n S L O r v) i
+  rank-back : (v i : ℕ) → v < n → i < length (rows v) → rankOf (getD (rowAt w labels counts v) i 0) ≡ rankAt (rows v) i
   rank-back v i h l =
-      let at : (rankAt (rowBy n S L O r v) i < r) × (joinsAt (rowBy n S L O r v) i < n) = plain-places block order r v i below h l in
-      ap (λ (row : List ℕ). rankOf (getD row i 0)) (row-is n w (rowBy n S L O r) v h (fit v h))
-      ∙ ap rankOf (getD-encode (rowBy n S L O r v) i l)
-      ∙ rank-entry (rankAt (rowBy n S L O r v) i) (joinsAt (rowBy n S L O r v) i) (omega arith)
+      let at : (rankAt (rows v) i < r) × (joinsAt (rows v) i < n) = plain-places (g .block) (g .order) r v i (g .below) h l in
+      ap (λ (row : List ℕ). rankOf (getD row i 0)) (row-is n w rows v h (g .fit v h))
+      ∙ ap rankOf (getD-encode (rows v) i l)
+      ∙ rank-entry (rankAt (rows v) i) (joinsAt (rows v) i) (omega arith)
 
-  pub sound-back : SoundRows n w (labelsOf n w (rowBy n S L O r)) (countsOf n (rowBy n S L O r))
+  pub sound-back : SoundRows n w labels counts
   sound-back =
       record {
-        fits = λ v h. omega (arith, count-at n (rowBy n S L O r) v h, fit v h);
+        fits = λ v h. omega (arith, count-at n rows v h, g .fit v h);
         ranks =
             λ v i h l.
-            let k : i < length (rowBy n S L O r v) = omega (arith, count-at n (rowBy n S L O r) v h) in
+            let k : i < length (rows v) = omega (arith, count-at n rows v h) in
             omega (arith, rank-back v i h k, plain-rising n S L O r v .below i k);
         rising =
             λ v i j h less l.
-            let k : j < length (rowBy n S L O r v) = omega (arith, count-at n (rowBy n S L O r) v h) in
-            let m : i < length (rowBy n S L O r v) = omega arith in
+            let k : j < length (rows v) = omega (arith, count-at n rows v h) in
+            let m : i < length (rows v) = omega arith in
             omega (arith, rank-back v i h m, rank-back v j h k, plain-rising n S L O r v .rise i j less k);
       }
 
   module _ (less : r < n) where
     -- the walk of rank r makes the rows at r + 1
-    pub rows-next : (v : ℕ) → v < n
-        → walkedRows n w S L (labelsOf n w (rowBy n S L O r)) (countsOf n (rowBy n S L O r)) r (hubOf O r) v ≡ rowBy n S L O (suc r) v
+    pub rows-next : (v : ℕ) → v < n → walkedRows n w S L labels counts r (hubOf O r) v ≡ rowBy n S L O (suc r) v
     unfolding walkedRows
-    rows-next v h =
-        walk-out block order (rowsIn w (labelsOf n w (rowBy n S L O r)) (countsOf n (rowBy n S L O r))) r v less h rows-back
+    rows-next v h = walk-out (g .block) (g .order) (rowsIn w labels counts) r v less h rows-back
 
     full-frame : (v : ℕ) → v < n
-        → kept n w S L (labelsOf n w (rowBy n S L O r)) (countsOf n (rowBy n S L O r)) (hubOf O r) v
-        && leb w (getD (countsOf n (rowBy n S L O r)) v 0)
-        ≡ ltb w (length (rowBy n S L O (suc r) v))
+        → kept n w S L labels counts (hubOf O r) v && leb w (getD counts v 0) ≡ ltb w (length (rowBy n S L O (suc r) v))
     unfolding kept walkedRows walkRow levelOf soFar rowsIn
     full-frame v h =
-        let labels : List ℕ = labelsOf n w (rowBy n S L O r) in
-        let counts : List ℕ = countsOf n (rowBy n S L O r) in
         let level : ℕ = levelOf n w S L labels counts (hubOf O r) v in
         let answered : ℕ = soFar n w labels counts (hubOf O r) v in
         let long : getD counts v 0 ≡ length (rowsIn w labels counts v) =
-        count-at n (rowBy n S L O r) v h ∙ ap (λ (x : Row). length x) (sym (rows-back v h)) in
+        count-at n rows v h ∙ ap (λ (x : Row). length x) (sym (rows-back v h)) in
         ap (λ (c : ℕ). ltb level answered && leb w c) long
         ∙ over-width r level answered w (rowsIn w labels counts v)
-        (omega (arith, long, count-at n (rowBy n S L O r) v h, fit v h))
+        (omega (arith, long, count-at n rows v h, g .fit v h))
         ∙ ap (λ (x : Row). ltb w (length x)) (rows-next v h)
 
     far-frame : (v : ℕ) → v < n
-        → kept n w S L (labelsOf n w (rowBy n S L O r)) (countsOf n (rowBy n S L O r)) (hubOf O r) v
-        && ltb 4095 (levelOf n w S L (labelsOf n w (rowBy n S L O r)) (countsOf n (rowBy n S L O r)) (hubOf O r) v)
+        → kept n w S L labels counts (hubOf O r) v && ltb 4095 (levelOf n w S L labels counts (hubOf O r) v)
         ≡ farFrame n S L O r v
     unfolding kept walkedRows walkRow levelOf soFar rowsIn farFrame rowBy ruleRow
     far-frame v h =
-        let labels : List ℕ = labelsOf n w (rowBy n S L O r) in
-        let counts : List ℕ = countsOf n (rowBy n S L O r) in
         let level : ℕ = levelOf n w S L labels counts (hubOf O r) v in
         let answered : ℕ = soFar n w labels counts (hubOf O r) v in
         kept-same r level answered (joinsTo n S L (hubOf O r) v) (hubs (far 1 n) (joinsTo n S L) (hubOf O) r (hubOf O r) v)
-        (rowBy n S L O r v) (λ m. ltb 4095 m) (ap (keep r level answered) (sym (rows-back v h)) ∙ rows-next v h)
+        (rows v) (λ m. ltb 4095 m) (ap (keep r level answered) (sym (rows-back v h)) ∙ rows-next v h)
 
     -- it has no room exactly where the rule's rows at r + 1 are over w
-    walk-full : walkFits n w S L (labelsOf n w (rowBy n S L O r)) (countsOf n (rowBy n S L O r)) (hubOf O r) ≡ not (fullAt n w S L O r)
+    walk-full : walkFits n w S L labels counts (hubOf O r) ≡ not (fullAt n w S L O r)
     unfolding walkFits fullAt
     walk-full = ap not (some-ext _ _ 0 n (λ v l h. full-frame v (omega arith)))
 
     -- it is too far exactly where the rule's entries of rank r are over 4,095 joins
-    walk-far : walkNear n w S L (labelsOf n w (rowBy n S L O r)) (countsOf n (rowBy n S L O r)) (hubOf O r) ≡ not (farAt n S L O r)
+    walk-far : walkNear n w S L labels counts (hubOf O r) ≡ not (farAt n S L O r)
     unfolding walkNear farAt
     walk-far = ap not (some-ext _ _ 0 n (λ v l h. far-frame v (omega arith)))
 
-    pub walk-is : walkOf n w S L (labelsOf n w (rowBy n S L O r)) (countsOf n (rowBy n S L O r)) (hubOf O r)
+    pub walk-is : walkOf n w S L labels counts (hubOf O r)
         ≡ cond (fullAt n w S L O r) Full (cond (farAt n S L O r) Far Made)
     unfolding walkOf
     walk-is =

@@ -1,29 +1,26 @@
 -- The state of a run between two walks: rooms that hold the rule's rows at the rank reached, work rooms 0, and no rank
 -- before it that stops. One walk takes it to the next rank, or the run ends there.
-use Prim.Native.Nat.{ℕ, zero, suc, _+_, _-_, _*_, _≤_, _<_}
-use mathlib.Core.Path.{_≡_, refl, sym, ap, subst, _∙_}
-use mathlib.Core.Bool.{Bool, true, false, cond, _||_}
+use Prim.Native.Nat.{ℕ, _+_, _*_, _≤_, _<_}
+use mathlib.Core.Path.{_≡_, sym, ap, _∙_}
+use mathlib.Core.Bool.{true, false, cond}
 use mathlib.Core.List.{List}
 use native.Mathlib.Decide.{ℕ-discrete}
 use native.Mathlib.Numerals.{add-one}
 use native.Mathlib.Omega.{arith}
-use lib.ListN.{length, getD, replicate, length-replicate}
+use lib.ListN.{length, replicate, length-replicate}
 use Rattle.basics.proofs.Laws.{bcase, by-cases, neither, either-left, either-right, cond-true, cond-false}
-use Rattle.refusal.specs.Numbers.{ROOM, FAR}
-use Rattle.refusal.specs.Tests.{refusal}
 use Rattle.refusal.specs.declared.Refusal.{Refusal}
 use Rattle.refusal.specs.declared.Verdict.{Verdict}
 use Rattle.refusal.specs.declared.Verdict.the-variants.{Fine, Refused}
 use Rattle.refusal.proofs.Laws.{fine-not-refused}
 use Rattle.theory.specs.Links.{hubOf}
-use Rattle.theory.specs.Rows.{Row}
 use Rattle.theory.specs.Plain.{rowBy}
 use Rattle.build.specs.Build.{labelsOf, countsOf, fullAt, farAt, stopAt, walksTest, RunIn, RunOut}
-use Rattle.build.specs.Settle.{WalkIn, WalkOut, walkOf, walkedRows, ifMade, verdictOf}
+use Rattle.build.specs.Settle.{WalkIn, WalkOut, walkedRows, ifMade, verdictOf}
 use Rattle.build.specs.declared.settle.Walked.{Walked}
 use Rattle.build.specs.declared.settle.Walked.the-variants.{Made, Full, Far}
 use Rattle.build.proofs.RoomLaws.{labels-ext, counts-ext, length-labels, length-counts}
-use Rattle.build.proofs.RunLaws.{laid-back, sound-back, rows-next, walk-is}
+use Rattle.build.proofs.RunLaws.{Ruled, laid-back, sound-back, rows-next, walk-is}
 use Rattle.build.proofs.RunStops.{stops, labels-empty, counts-empty, fit-upto, stop-here, run-full, run-far, stop-end, run-end}
 
 made-is : {walked : Walked} → walked ≡ Made → (x y : List ℕ) → ifMade walked x y ≡ x
@@ -83,14 +80,22 @@ run-lengths {n} {w} {r = r} {S} {L} {O} i s = (
   ap length (s .noted-far ∙ sym (i .noted-far)),
 )
 
-module _ {n w k : ℕ} {S L O labels₀ counts₀ met₀ queue₀ noted₀ labels counts met queue noted : List ℕ} (r : ℕ)
+module _ {n w k : ℕ} {S L O labels₀ counts₀ met₀ queue₀ noted₀ labels counts met queue noted : List ℕ} {r : ℕ}
     (i : RunIn n w k S L O labels₀ counts₀ met₀ queue₀ noted₀) (s : Running n w k S L O r labels counts met queue noted)
     (h : r < k) where
-  fit : (v : ℕ) → v < n → length (rowBy n S L O r v) ≤ w
-  fit = fit-upto n w S L O r (s .none)
-
   below : r < n
   below = omega (arith, i .stop)
+
+  ruled : Ruled n w S L O r
+  ruled =
+      record {
+        block = i .block;
+        order = i .order;
+        frames = i .frames;
+        wide = i .wide;
+        below = omega (arith, below);
+        fit = fit-upto n w S L O r (s .none);
+      }
 
   pub run-long : length counts ≡ n
   run-long = ap length (s .numbers) ∙ length-counts n (rowBy n S L O r)
@@ -106,26 +111,24 @@ module _ {n w k : ℕ} {S L O labels₀ counts₀ met₀ queue₀ noted₀ label
               wide = i .wide;
               width = i .width;
               block = i .block;
-              places = i .places;
               labels-long = length-labels n w (rowBy n S L O r);
-              counts-long = length-counts n (rowBy n S L O r);
-              rows = sound-back (i .block) (i .order) w r (i .frames) (i .wide) (omega (arith, below)) fit;
+              rows = sound-back ruled;
               hub-in = i .order .inside r below;
               met-zero = s .met-zero;
               queue-zero = s .queue-zero;
               noted-far = s .noted-far;
             };
-        laid = laid-back (i .block) (i .order) w r (i .frames) (i .wide) (omega (arith, below)) fit;
+        laid = laid-back ruled;
       })
 
-  module _ (walked : Walked) (labels′ counts′ met′ queue′ noted′ : List ℕ)
+  module _ {walked : Walked} {labels′ counts′ met′ queue′ noted′ : List ℕ}
       (o : WalkOut (length counts) w S L labels counts r (hubOf O r) walked labels′ counts′ met′ queue′)
       (notes : noted′ ≡ noted) where
     out : WalkOut n w S L (labelsOf n w (rowBy n S L O r)) (countsOf n (rowBy n S L O r)) r (hubOf O r) walked labels′ counts′ met′ queue′
     out = rw (run-long, s .rows, s .numbers) at o
 
     which : walked ≡ cond (fullAt n w S L O r) Full (cond (farAt n S L O r) Far Made)
-    which = out .answer ∙ walk-is (i .block) (i .order) w r (i .frames) (i .wide) (omega (arith, below)) fit below
+    which = out .answer ∙ walk-is ruled below
 
     is-full : fullAt n w S L O r ≡ true → walked ≡ Full
     is-full e = which ∙ cond-true _ _ e
@@ -143,7 +146,7 @@ module _ {n w k : ℕ} {S L O labels₀ counts₀ met₀ queue₀ noted₀ label
         let after : (v : ℕ) → v < n
         → walkedRows n w S L (labelsOf n w (rowBy n S L O r)) (countsOf n (rowBy n S L O r)) r (hubOf O r) v ≡ rowBy n S L O (r + 1) v =
         λ v l.
-        rows-next (i .block) (i .order) w r (i .frames) (i .wide) (omega (arith, below)) fit below v l
+        rows-next ruled below v l
         ∙ ap (λ (j : ℕ). rowBy n S L O j v) (sym (add-one r)) in
         record {
           upto = omega arith;
@@ -162,9 +165,9 @@ module _ {n w k : ℕ} {S L O labels₀ counts₀ met₀ queue₀ noted₀ label
         }
 
     -- a walk that is not made ends it at this rank, with rows and counts as they were
-    stopped : (verdict : Verdict) → stops n w S L O r ≡ true → ((x y : List ℕ) → ifMade walked x y ≡ y)
+    stopped : {verdict : Verdict} → stops n w S L O r ≡ true → ((x y : List ℕ) → ifMade walked x y ≡ y)
         → verdict ≡ walksTest n w k S L O → RunOut n w k S L O verdict labels′ counts′ met′ queue′
-    stopped verdict e still answer =
+    stopped e still answer =
         let at : r ≡ stopAt n w k S L O = sym (stop-here n w S L O k r h (s .none) e) in
         record {
           answer = answer;
@@ -184,19 +187,19 @@ module _ {n w k : ℕ} {S L O labels₀ counts₀ met₀ queue₀ noted₀ label
         (λ f. fine-not-refused (sym fine ∙ ap (λ (x : Walked). verdictOf x r) (is-far e f)))
         (next e))
 
-    pub run-stops : (verdict : Verdict) (refused : Refusal) → verdict ≡ verdictOf walked r → verdict ≡ Refused refused
+    pub run-stops : {verdict : Verdict} {refused : Refusal} → verdict ≡ verdictOf walked r → verdict ≡ Refused refused
         → RunOut n w k S L O verdict labels′ counts′ met′ queue′
     unfolding verdictOf ifMade
-    run-stops verdict refused is not-fine =
+    run-stops is not-fine =
         bcase (fullAt n w S L O r)
         (λ e.
-        stopped verdict (either-left (fullAt n w S L O r) (farAt n S L O r) e)
+        stopped (either-left (fullAt n w S L O r) (farAt n S L O r) e)
         (λ x y. ap (λ (z : Walked). ifMade z x y) (is-full e))
         (is ∙ ap (λ (z : Walked). verdictOf z r) (is-full e) ∙ sym (run-full n w S L O k r h (s .none) e)))
         (λ e.
         bcase (farAt n S L O r)
         (λ f.
-        stopped verdict (either-right (fullAt n w S L O r) (farAt n S L O r) f)
+        stopped (either-right (fullAt n w S L O r) (farAt n S L O r) f)
         (λ x y. ap (λ (z : Walked). ifMade z x y) (is-far e f))
         (is ∙ ap (λ (z : Walked). verdictOf z r) (is-far e f) ∙ sym (run-far n w S L O k r h (s .none) e f)))
         (λ f. fine-not-refused (sym (is ∙ ap (λ (z : Walked). verdictOf z r) (is-made e f)) ∙ not-fine)))

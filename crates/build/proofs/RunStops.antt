@@ -1,17 +1,16 @@
 -- Where a run of walks stops: at the first rank at which the rule's rows are over W or over 4,095 joins, or at k.
-use Prim.Native.Nat.{ℕ, zero, suc, _+_, _-_, _*_, _/_, _%_, _≤_, _<_}
+use Prim.Native.Nat.{ℕ, zero, suc, _*_, _/_, _%_, _≤_, _<_}
 use mathlib.Core.Path.{_≡_, refl, sym, ap, _∙_}
-use mathlib.Core.Bool.{Bool, true, false, cond, _||_}
+use mathlib.Core.Bool.{Bool, true, false, _||_}
 use mathlib.Core.List.{List, []}
 use native.Mathlib.Omega.{arith}
 use borrow.Author.Tests.{eq-eqb, ne-eqb, ltb-false}
 use lib.ListN.{length, getD, replicate, length-replicate, getD-replicate}
-use lib.Dec.{eqb, ltb}
+use lib.Dec.{ltb}
 use lib.Seq.{ext-getD}
-use Rattle.basics.specs.Places.{first, some}
-use Rattle.basics.proofs.Laws.{first-is, first-none, some-not, either-left, either-right, either-false, cond-true, cond-false}
+use Rattle.basics.proofs.Laws.{first-is, first-none, some-not, either-left, either-right, either-false}
 use Rattle.refusal.specs.Numbers.{ROOM, FAR}
-use Rattle.refusal.specs.Tests.{test, refusal}
+use Rattle.refusal.specs.Tests.{refusal}
 use Rattle.refusal.specs.declared.Verdict.the-variants.{Fine, Refused}
 use Rattle.refusal.proofs.Laws.{test-fine, test-refused}
 use Rattle.theory.specs.Rows.{Row}

@@ -1,6 +1,6 @@
 -- What a build gives back and leaves in the rooms it is lent: the paper's tests, and then the rows of the ROW RULE, not of
 -- any walk. n frames, width w, stop k, start positions S, neighbour places L, order O.
-use Prim.Native.Nat.{ℕ, zero, suc, _+_, _*_, _/_, _%_, _≤_}
+use Prim.Native.Nat.{ℕ, suc, _+_, _*_, _/_, _%_, _≤_}
 use mathlib.Core.Path.{_≡_}
 use mathlib.Core.Bool.{Bool, cond, _&&_, _||_}
 use mathlib.Core.List.{List}
@@ -9,7 +9,6 @@ use lib.Dec.{leb, ltb, eqb}
 use Rattle.basics.specs.Places.{first, some, table, sum}
 use Rattle.refusal.specs.Numbers.{SIZE, LENGTH, ROOM, FAR}
 use Rattle.refusal.specs.Tests.{test, _then_}
-use Rattle.refusal.specs.declared.Refusal.{Refusal}
 use Rattle.refusal.specs.declared.Verdict.{Verdict}
 use Rattle.refusal.specs.declared.Verdict.the-variants.{Fine, Refused}
 use Rattle.theory.specs.Distance.{far}
@@ -82,7 +81,6 @@ pub record MakeIn (n w k : ℕ) (S L O labels counts met queue : List ℕ) : Typ
   pub width : w ≤ 256
   pub stop : k ≤ n
   pub block : Block n 1 S L ones
-  pub places : length L ≤ 65536
   pub order : Order n O
   pub labels-long : length labels ≡ n * w
   pub counts-long : length counts ≡ n
@@ -96,7 +94,6 @@ pub record RunIn (n w k : ℕ) (S L O labels counts met queue noted : List ℕ) 
   pub width : w ≤ 256
   pub stop : k ≤ n
   pub block : Block n 1 S L ones
-  pub places : length L ≤ 65536
   pub order : Order n O
   pub labels-zero : labels ≡ replicate (n * w) 0
   pub counts-zero : counts ≡ replicate n 0

@@ -26,9 +26,7 @@ pub record ExploreIn (n w : ℕ) (S L labels counts : List ℕ) (hub : ℕ) (met
   pub wide : 1 ≤ w
   pub width : w ≤ 256
   pub block : Block n 1 S L ones
-  pub places : length L ≤ 65536
   pub labels-long : length labels ≡ n * w
-  pub counts-long : length counts ≡ n
   pub rows : SoundRows n w labels counts
   pub hub-in : hub < n
   pub met-zero : met ≡ replicate n 0
@@ -86,7 +84,6 @@ pub record DropIn (n w : ℕ) (labels counts noted : List ℕ) (u : ℕ) : Type 
   pub frames : n ≤ 4096
   pub width : w ≤ 256
   pub labels-long : length labels ≡ n * w
-  pub counts-long : length counts ≡ n
   pub rows : SoundRows n w labels counts
   pub notes : n ≤ length noted
   pub frame : u < n

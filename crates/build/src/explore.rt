@@ -65,19 +65,19 @@ fn near(row: &[Entry], noted: &[u32], level: usize) -> bool
     false
 }
 
-// Meets the frames in the list of u that are not met yet, at `x`, and puts them behind the queue; gives back its new end.
+// Meets the frames in the list of u that are not met yet, with this mark, and puts them behind the queue; gives back its new end.
 fn meet(
     starts: &[u32],
     places: &[u32],
     u: usize,
-    x: u32,
+    mark: u32,
     met: &mut [u32],
     queue: &mut [u32],
     tail: usize,
 ) -> usize
-    requires { ⌜ MeetIn (now starts) (now places) u x (now met) (now queue) tail ⌝ }
+    requires { ⌜ MeetIn (now starts) (now places) u mark (now met) (now queue) tail ⌝ }
     ensures { λ r. ⌜
-        Grown (now (starts .entry)) (now (places .entry)) u (getD (now (starts .entry)) (u + 1) 0) x
+        Grown (now (starts .entry)) (now (places .entry)) u (getD (now (starts .entry)) (u + 1) 0) mark
         (now (met .entry)) (now (queue .entry)) tail (now (met .exit)) (now (queue .exit)) r
         ⌝ }
 {
@@ -88,7 +88,7 @@ fn meet(
         let v = places[at] as usize;
         at += 1;
         if met[v] == 0 {
-            met[v] = x;
+            met[v] = mark;
             queue[grown] = v as u32;
             grown += 1;
         }
@@ -137,13 +137,13 @@ fn step(
         ⌝ }
 {
     let u = queue[head] as usize;
-    let x = met[u];
-    let level = (x - 1) as usize;
+    let mark = met[u];
+    let level = (mark - 1) as usize;
     if dropped(w, labels, counts, noted, u, level) {
-        met[u] = x + DROPPED;
+        met[u] = mark + DROPPED;
         return tail;
     }
-    meet(starts, places, u, x + 1, met, queue, tail)
+    meet(starts, places, u, mark + 1, met, queue, tail)
 }
 
 // The walk from the hub, level by level along the queue; gives back how many frames it met.

@@ -2,10 +2,10 @@
 use crate::Built;
 use crate::rooms::clear;
 use crate::rooms::clear_labels;
-use crate::rooms::total;
 use crate::run::walks;
 use refusal::Verdict;
 use rows::entry::Entry;
+use rows::rooms::total;
 ghost use mathlib.Core.Path.{_≡_};
 ghost use lib.ListN.{length};
 ghost use Rattle.theory.specs.Plain.{rowBy};
@@ -43,5 +43,6 @@ pub fn make(
         clear(counts);
         return Built::Refused(refused);
     }
-    Built::Entries(total(counts))
+    let entries = total(counts);
+    Built::Entries(entries)
 }

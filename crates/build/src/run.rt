@@ -1,7 +1,6 @@
 // The walks of the first k hubs in rank order, over cleared rooms, up to the first that is refused.
 use crate::settle::Walked;
 use crate::walk::walk;
-use refusal::Refusal;
 use refusal::Verdict;
 use rows::entry::Entry;
 ghost use mathlib.Core.Path.{_≡_};
@@ -15,14 +14,8 @@ pub fn verdict_of(walked: Walked, rank: usize) -> Verdict
 {
     match walked {
         Walked::Made => Verdict::Fine,
-        Walked::Full => Verdict::Refused(Refusal {
-            number: refusal::ROOM,
-            place: rank,
-        }),
-        Walked::Far => Verdict::Refused(Refusal {
-            number: refusal::FAR,
-            place: 0,
-        }),
+        Walked::Full => refusal::refused(refusal::ROOM, rank),
+        Walked::Far => refusal::refused(refusal::FAR, 0),
     }
 }
 

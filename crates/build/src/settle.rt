@@ -5,7 +5,7 @@ use rows::entry::Entry;
 use rows::entry::entry_of;
 ghost use mathlib.Core.Path.{_≡_};
 ghost use mathlib.Core.Bool.{true, cond};
-ghost use Prim.Native.Nat.{_+_, _-_, _*_, _≤_, _<_};
+ghost use Prim.Native.Nat.{_+_, _-_, _*_, _<_};
 ghost use lib.ListN.{length, getD, set, replicate};
 ghost use Rattle.rows.specs.Entry.{entryOf};
 ghost use Rattle.build.specs.Explore.{Queued};

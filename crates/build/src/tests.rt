@@ -1,26 +1,16 @@
 // The build's tests before any walk, 1 to 5: its own SIZE over all arguments, its own LENGTH over all rooms, and then the
 // tests of the links and of the order.
-use refusal::Refusal;
 use refusal::Verdict;
 ghost use mathlib.Core.Path.{_≡_};
 ghost use Prim.Native.Nat.{_≤_};
-ghost use lib.ListN.{length};
 ghost use Rattle.build.specs.Build.{buildSizes, buildRooms, buildTests};
 
 // n, W, k and the number of neighbour places are in range.
 pub fn sizes_fit(n: usize, w: usize, k: usize, places: usize) -> bool
     ensures { λ r. ⌜ r ≡ buildSizes n w k places ⌝ }
 {
-    if n < 1 {
-        return false;
-    }
-    if 4096 < n {
-        return false;
-    }
-    if w < 1 {
-        return false;
-    }
-    if 256 < w {
+    let sizes = rows::rooms::sizes_fit(n, w);
+    if !sizes {
         return false;
     }
     if n < k {
@@ -83,17 +73,11 @@ pub fn tests(
 {
     let sizes = sizes_fit(n, w, k, places.len());
     if !sizes {
-        return Verdict::Refused(Refusal {
-            number: refusal::SIZE,
-            place: 0,
-        });
+        return refusal::refused(refusal::SIZE, 0);
     }
     let lengths = rooms_fit(n, w, starts.len(), order.len(), labels, counts, met, queue);
     if !lengths {
-        return Verdict::Refused(Refusal {
-            number: refusal::LENGTH,
-            place: 0,
-        });
+        return refusal::refused(refusal::LENGTH, 0);
     }
     let sound = links::check_links(n, starts, places);
     let Verdict::Fine = sound else {

@@ -103,8 +103,8 @@ built-tests n w k S L O labels counts met queue entries labels' counts' met' que
     build-tests.tests-fine n w k S L O _ _ _ _ (a .0) in
     let count-room : counts' ≡ countsOf n (rowBy n S L O k) = ap (λ (o : Outcome). o .counts) (b .1) in
     record {
-      frames = (p .sizes-fit .one, p .sizes-fit .frames);
-      width = (p .sizes-fit .wide, p .sizes-fit .width);
+      frames = (p .sizes-fit .fit .some-frames, p .sizes-fit .fit .frames);
+      width = (p .sizes-fit .fit .some-width, p .sizes-fit .fit .width);
       stop = p .sizes-fit .stop;
       block = p .block;
       once = order-tested n w k S L O _ _ _ _ (a .0);
@@ -126,7 +126,16 @@ module _ {n w k : ℕ} {S L O : List ℕ} {entries : ℕ} {labels counts met que
   unfolding rowsIn
   built-row v p =
       (λ i. decode (rowAt w (m .label-room i) (m .count-room i) v))
-      ∙ rows-back (m .block) (m .order) w k (m .frames .1) (m .width .0) (m .stop) (m .narrow) v p
+      ∙ rows-back
+      (record {
+        block = m .block;
+        order = m .order;
+        frames = m .frames .1;
+        wide = m .width .0;
+        below = m .stop;
+        fit = m .narrow;
+      })
+      v p
 
   -- the rooms of an unrefused build hold the rows of the rule
   pub built-held : Held n w k S L O labels counts

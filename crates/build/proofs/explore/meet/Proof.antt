@@ -12,11 +12,11 @@ use Rattle.build.proofs.explore.meet.Statement.{statement}
 use Rattle.build.proofs.explore.meet.Tie as tie
 
 abbrev Inv-loop : tie.InvT-loop
-Inv-loop starts places u x met₀ queue₀ tail end at₀ grown₀ met queue at grown =
-    (getD starts u 0 ≤ at) × (at ≤ end) × Grown starts places u at x met₀ queue₀ tail met queue grown
+Inv-loop starts places u mark met₀ queue₀ tail end at₀ grown₀ met queue at grown =
+    (getD starts u 0 ≤ at) × (at ≤ end) × Grown starts places u at mark met₀ queue₀ tail met queue grown
 
 abbrev μ-loop : tie.MeasureT-loop
-μ-loop starts places u x met₀ queue₀ tail end at₀ grown₀ met queue at grown = end - at
+μ-loop starts places u mark met₀ queue₀ tail end at₀ grown₀ met queue at grown = end - at
 
 -- the list lies in the neighbour places
 list-end : (s : tie.Start Inv-loop μ-loop) → getD (s .args .starts .now) (s .args .u + 1) 0 ≤ length (s .args .places .now)
@@ -38,7 +38,9 @@ mul-at : tie.Need-mul-at Inv-loop μ-loop
 mul-at c = omega (arith, c .before .pre .frame, c .before .pre .frames)
 
 shared-slice-read-at : tie.Need-shared-slice-read-at Inv-loop μ-loop
-shared-slice-read-at c = omega (arith, c .before .before .pre .frame, c .before .before .pre .block .long)
+shared-slice-read-at c =
+    let p = c .before .before .pre in
+    omega (arith, p .frame, p .block .long)
 
 cast-at : tie.Need-cast-at Inv-loop μ-loop
 cast-at c = omega (arith, c .shared-slice-known2 .given (c .before .before .args .u))

@@ -22,13 +22,13 @@ slice-read-u c =
 cast-u : tie.Need-cast-u
 cast-u c = omega (arith, c .slice-known3 .given (c .before .before .before .before .before .before .before .before .args .head))
 
-mul-x : tie.Need-mul-x
-mul-x c =
+mul-mark : tie.Need-mul-mark
+mul-mark c =
     let s = c .before .before .before .before .before .before .before .before in
     omega (arith, head-in (s .pre .so-far) (s .pre .more), s .pre .given .frames)
 
-slice-read-x : tie.Need-slice-read-x
-slice-read-x c =
+slice-read-mark : tie.Need-slice-read-mark
+slice-read-mark c =
     let s = c .before .before .before .before .before .before .before .before .before in
     omega (arith, head-in (s .pre .so-far) (s .pre .more), s .pre .so-far .long)
 
@@ -110,8 +110,8 @@ step-spec =
     mul-u
     slice-read-u
     cast-u
-    mul-x
-    slice-read-x
+    mul-mark
+    slice-read-mark
     sub-level
     cast-level
     dropped-requires

@@ -1,10 +1,9 @@
 -- Cleared rooms may be walked over; what the walks leave is the outcome, or all 0 where one was refused.
-use Prim.Native.Nat.{ℕ, _*_, _≤_, _<_}
-use mathlib.Core.Path.{_≡_, refl, sym, ap, _∙_}
+use Prim.Native.Nat.{ℕ}
+use mathlib.Core.Path.{ap, _∙_}
 use native.Mathlib.Omega.{arith}
 use borrow.Author.Needs.{needs}
-use lib.ListN.{length, replicate, length-replicate}
-use Rattle.build.proofs.RoomLaws.{length-labels, length-counts}
+use lib.ListN.{replicate}
 use Rattle.build.proofs.BuildOut.{cleared, stopped-out, made-out}
 use Rattle.build.proofs.make.make.Statement.{statement}
 use Rattle.build.proofs.make.make.Tie as tie
@@ -23,7 +22,11 @@ clear-requires-3 c κs = search needs
 
 walks-requires : tie.Need-walks-requires
 walks-requires c κs =
-    cleared (c .before .before .before .before .before .before .before .before .before .before .before .before .before .before .before .before .before .before .before .before .before .before .before .before .before .before .before .pre) _ _ _ _ (c .before .before .before .before .before .before .before .before .before .before .before .before .before .before .before .before .before .before .clear-labels .ensures) (c .before .before .before .before .before .before .before .before .before .before .before .before .before .before .clear .ensures) (c .before .before .before .before .before .before .before .before .before .before .clear2 .ensures) (c .before .before .before .before .before .before .clear3 .ensures)
+    let k = c .before .before .before .before .before .before in
+    let j = k .before .before .before .before in
+    let h = j .before .before .before .before in
+    let g = h .before .before .before .before in
+    cleared (g .before .before .before .before .before .before .before .before .before .pre) (g .clear-labels .ensures) (h .clear .ensures) (j .clear2 .ensures) (k .clear3 .ensures)
 
 enum-known-walked : tie.Need-enum-known-walked
 enum-known-walked c = search needs
@@ -35,7 +38,10 @@ clear-requires-4 : tie.Need-clear-requires-4
 clear-requires-4 c κs = search needs
 
 same-length : tie.Need-same-length
-same-length c = c .before .before .before .before .before .before .clear-labels2 .kept .0 ∙ c .before .before .before .before .before .before .before .before .before .before .before .before .before .before .before .before .before .before .before .walks .kept .1 .1 .1 .1 .1 .0 ∙ c .before .before .before .before .before .before .before .before .before .before .before .before .before .before .before .before .before .before .before .before .before .before .before .before .before .before .before .before .before .before .before .before .before .before .before .before .before .before .clear-labels .kept .0
+same-length c =
+    let g = c .before .before .before .before .before .before in
+    let h = g .before .before .before .before .before .before .before .before .before .before .before .before .before in
+    g .clear-labels2 .kept .0 ∙ h .walks .kept .1 .1 .1 .1 .1 .0 ∙ h .before .before .before .before .before .before .before .before .before .before .before .before .before .before .before .before .before .before .before .clear-labels .kept .0
 
 same-length-2 : tie.Need-same-length-2
 same-length-2 c = search needs
@@ -48,16 +54,23 @@ same-length-4 c = search needs
 
 returns : tie.Need-returns
 returns c =
-    stopped-out (c .before .before .before .before .before .before .before .before .before .before .before .before .before .before .before .before .before .before .before .walks .ensures) (c .before .before .before .before .before .before .before .before .before .before .before .before .before .before .before .before .before .before .before .before .before .before .before .before .before .before .before .before .before .before .before .before .before .before .clear .kept .0) _ _ _ (c .before .before .before .before .before .before .before .before .before .walked .given .1)
-    (c .before .before .before .before .before .before .clear-labels2 .ensures
-    ∙ ap (λ (j : ℕ). replicate j 0) (c .before .before .before .before .before .before .before .before .before .before .before .before .before .before .before .before .before .before .before .walks .kept .1 .1 .1 .1 .1 .0 ∙ c .before .before .before .before .before .before .before .before .before .before .before .before .before .before .before .before .before .before .before .before .before .before .before .before .before .before .before .before .before .before .before .before .before .before .before .before .before .before .clear-labels .kept .0 ∙ c .before .before .before .before .before .before .before .before .before .before .before .before .before .before .before .before .before .before .before .before .before .before .before .before .before .before .before .before .before .before .before .before .before .before .before .before .before .before .before .before .before .before .before .before .before .before .before .pre .labels-long))
-    (c .before .before .clear4 .ensures ∙ ap (λ (j : ℕ). replicate j 0) (c .before .before .before .before .before .before .before .before .before .before .before .before .before .before .before .before .before .before .before .walks .kept .1 .1 .1 .1 .1 .1 .0 ∙ c .before .before .before .before .before .before .before .before .before .before .before .before .before .before .before .before .before .before .before .before .before .before .before .before .before .before .before .before .before .before .before .before .before .before .clear .kept .0))
+    let g = c .before .before .before .before .before .before in
+    let k = g .before .before .before .before .before .before .before .before .before .before .before .before .before in
+    let j = k .before .before .before .before .before .before .before .before .before .before .before .before .before .before .before in
+    let h = j .before .before .before .before in
+    stopped-out (k .walks .ensures) (j .clear .kept .0) (g .before .before .before .walked .given .1)
+    (g .clear-labels2 .ensures
+    ∙ ap (λ (j : ℕ). replicate j 0) (k .walks .kept .1 .1 .1 .1 .1 .0 ∙ h .clear-labels .kept .0 ∙ h .before .before .before .before .before .before .before .before .before .pre .labels-long))
+    (c .before .before .clear4 .ensures ∙ ap (λ (j : ℕ). replicate j 0) (k .walks .kept .1 .1 .1 .1 .1 .1 .0 ∙ j .clear .kept .0))
 
 enum-told : tie.Need-enum-told
 enum-told c = search needs
 
 total-requires : tie.Need-total-requires
-total-requires c κs = omega (arith, c .before .before .before .before .before .before .before .before .before .before .before .walks .kept .1 .1 .1 .1 .1 .1 .0, c .before .before .before .before .before .before .before .before .before .before .before .before .before .before .before .before .before .before .before .before .before .before .before .before .before .before .clear .kept .0, c .before .before .before .before .before .before .before .before .before .before .before .before .before .before .before .before .before .before .before .before .before .before .before .before .before .before .before .before .before .before .before .before .before .before .before .before .before .before .before .pre .frames)
+total-requires c κs =
+    let k = c .before .before .before .before .before .before .before .before .before .before .before in
+    let j = k .before .before .before .before .before .before .before .before .before .before .before .before .before .before .before in
+    omega (arith, k .walks .kept .1 .1 .1 .1 .1 .1 .0, j .clear .kept .0, j .before .before .before .before .before .before .before .before .before .before .before .before .before .pre .frames)
 
 same-length-5 : tie.Need-same-length-5
 same-length-5 c = search needs
@@ -73,7 +86,8 @@ same-length-8 c = search needs
 
 returns-2 : tie.Need-returns-2
 returns-2 c =
-    made-out (c .before .before .before .before .before .before .before .before .before .before .before .before .walks .ensures) (c .before .before .before .before .before .before .before .before .before .before .before .before .before .before .before .before .before .before .before .before .before .before .before .before .before .before .before .clear .kept .0) _ (c .before .before .enum-told .given .1) (c .total .ensures)
+    let k = c .before .before .before .before .before .before .before .before .before .before .before .before in
+    made-out (k .walks .ensures) (k .before .before .before .before .before .before .before .before .before .before .before .before .before .before .before .clear .kept .0) (c .before .before .enum-told .given .1) (c .total .ensures .0)
 
 pub make-spec : {M : Type 1} → statement M
 make-spec =

@@ -1,53 +1,40 @@
--- The invariant: the places passed are 0 and the rest is as lent. It ends as the place rises to the length.
-use Prim.Native.Nat.{ℕ, _+_, _-_, _*_, _≤_, _<_}
-use mathlib.Core.Path.{_≡_, refl, sym, ap, _∙_}
-use mathlib.Core.List.{List, _++_, append-nil}
-use native.Mathlib.Nat.{le-of-eq}
+-- The invariant is `Cleared`. It ends as the place rises to the length.
+use Prim.Native.Nat.{_-_}
 use native.Mathlib.Omega.{arith}
-use borrow.Author.Fill.{fill-none, fill-more}
-use lib.ListN.{length, set, drop, replicate, length-set, drop-of-length-le}
+use lib.ListN.{length}
+use Rattle.build.proofs.RoomClear.{Cleared, clear-none, clear-more, clear-all}
 use Rattle.build.proofs.rooms.clear_labels.Statement.{statement}
 use Rattle.build.proofs.rooms.clear_labels.Tie as tie
 
 abbrev Inv-loop : tie.InvT-loop
-Inv-loop labels₀ at₀ labels at = (at ≤ length labels₀) × (length labels ≡ length labels₀) × (labels ≡ replicate at 0 ++ drop at labels₀)
+Inv-loop labels₀ at₀ labels at = Cleared labels₀ labels at
 
 abbrev μ-loop : tie.MeasureT-loop
 μ-loop labels₀ at₀ labels at = length labels₀ - at
 
 loop-holds : tie.Need-loop-holds Inv-loop μ-loop
-loop-holds c = (omega arith, refl, fill-none (c .args .labels .now) 0)
+loop-holds c = clear-none _
 
 mul-labels : tie.Need-mul-labels Inv-loop μ-loop
-mul-labels c = omega (arith, c .before .loop .inv .1)
+mul-labels c = omega (arith, c .before .loop .inv .long)
 
 slice-write-labels : tie.Need-slice-write-labels Inv-loop μ-loop
 slice-write-labels c = c .loop-test .taken
 
 add-at : tie.Need-add-at Inv-loop μ-loop
-add-at c = omega (arith, c .before .loop .inv .1)
+add-at c = omega (arith, c .before .loop .inv .long)
 
 loop-less : tie.Need-loop-less Inv-loop μ-loop
-loop-less c = omega (arith, c .before .loop .inv .1)
+loop-less c = omega (arith, c .before .loop .inv .long)
 
 loop-again : tie.Need-loop-again Inv-loop μ-loop
-loop-again c = (
-  omega (arith, c .before .loop .inv .1),
-  length-set (c .before .loop .labels) (c .before .loop .at) 0 ∙ c .before .loop .inv .1,
-  ap (λ (l : List ℕ). set l (c .before .loop .at) 0) (c .before .loop .inv .2)
-      ∙ fill-more (c .before .loop .at) 0 (c .before .before .args .labels .now) (omega (arith, c .before .loop .inv .1)),
-)
+loop-again c = clear-more (c .before .loop .inv) (c .loop-test .taken)
 
 same-length : tie.Need-same-length Inv-loop μ-loop
-same-length c = c .before .loop .inv .1
+same-length c = c .before .loop .inv .long
 
 returns : tie.Need-returns Inv-loop μ-loop
-returns c =
-    let end : c .before .loop .at ≡ length (c .before .before .args .labels .now) = omega (arith, c .before .loop .inv .1) in
-    c .before .loop .inv .2
-    ∙ ap (λ (l : List ℕ). replicate (c .before .loop .at) 0 ++ l) (drop-of-length-le (c .before .before .args .labels .now) (le-of-eq (sym end)))
-    ∙ append-nil _
-    ∙ ap (λ (n : ℕ). replicate n 0) end
+returns c = clear-all (c .before .loop .inv) (c .loop-test .left)
 
 pub clear-labels-spec : {M : Type 1} → statement M
 clear-labels-spec =

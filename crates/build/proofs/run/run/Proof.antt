@@ -1,11 +1,10 @@
 -- The invariant: the state of a run at the present rank (RunState). A walk that is made takes it to the next rank, one that
 -- is not ends it there; the ranks left up to k fall.
-use Prim.Native.Nat.{ℕ, _+_, _-_, _*_, _≤_, _<_}
-use mathlib.Core.Path.{_≡_, refl, sym, ap, subst, _∙_}
-use mathlib.Core.List.{List}
+use Prim.Native.Nat.{_-_}
+use mathlib.Core.Path.{sym, _∙_}
 use native.Mathlib.Omega.{arith}
 use borrow.Author.Needs.{needs}
-use lib.ListN.{length, getD, replicate, length-replicate}
+use lib.ListN.{length}
 use Rattle.build.proofs.RunState.{Running, run-begins, run-ends, run-lengths, run-ready, run-next, run-stops}
 use Rattle.build.proofs.run.run.Statement.{statement}
 use Rattle.build.proofs.run.run.Tie as tie
@@ -21,16 +20,22 @@ loop-holds : tie.Need-loop-holds Inv-loop μ-loop
 loop-holds c = run-begins (c .before .before .before .before .before .before .before .before .pre)
 
 mul-hub : tie.Need-mul-hub Inv-loop μ-loop
-mul-hub c = omega (arith, c .before .before .before .before .before .before .before .before .before .before .pre .order .long, c .before .before .before .before .before .before .before .before .before .before .pre .stop)
+mul-hub c =
+    let p = c .before .before .before .before .before .before .before .before .before .before .pre in
+    omega (arith, p .order .long, p .stop)
 
 shared-slice-read-hub : tie.Need-shared-slice-read-hub Inv-loop μ-loop
-shared-slice-read-hub c = omega (arith, c .before .before .before .before .before .before .before .before .before .before .before .pre .order .long, c .before .before .before .before .before .before .before .before .before .before .before .pre .stop)
+shared-slice-read-hub c =
+    let p = c .before .before .before .before .before .before .before .before .before .before .before .pre in
+    omega (arith, p .order .long, p .stop)
 
 cast-hub : tie.Need-cast-hub Inv-loop μ-loop
 cast-hub c = omega (arith, c .shared-slice-known4 .given (c .before .before .loop .rank))
 
 walk-requires : tie.Need-walk-requires Inv-loop μ-loop
-walk-requires c κs = run-ready (c .before .before .before .before .before .before .before .loop .rank) (c .before .before .before .before .before .before .before .before .before .before .before .before .before .before .before .before .pre) (c .before .before .before .before .before .before .before .loop .inv) (c .before .before .before .before .before .before .loop-test .taken)
+walk-requires c κs =
+    let t = c .before .before .before .before .before .before in
+    run-ready (t .before .before .before .before .before .before .before .before .before .before .pre) (t .before .loop .inv) (t .loop-test .taken)
 
 verdict-of-requires : tie.Need-verdict-of-requires Inv-loop μ-loop
 verdict-of-requires c κs = search needs
@@ -42,25 +47,42 @@ enum-told-2 : tie.Need-enum-told-2 Inv-loop μ-loop
 enum-told-2 c = search needs
 
 same-length : tie.Need-same-length Inv-loop μ-loop
-same-length c = c .before .before .before .before .before .before .before .before .before .before .before .before .before .walk .kept .1 .1 .1 .1 .0 ∙ run-lengths (c .before .before .before .before .before .before .before .before .before .before .before .before .before .before .before .before .before .before .before .before .before .before .before .before .before .before .before .before .before .before .pre) (c .before .before .before .before .before .before .before .before .before .before .before .before .before .before .before .before .before .before .before .before .before .loop .inv) .0
+same-length c =
+    let w = c .before .before .before .before .before .before .before .before .before .before .before .before .before in
+    let t = w .before .before .before .before .before .before .before in
+    w .walk .kept .1 .1 .1 .1 .0 ∙ run-lengths (t .before .before .before .before .before .before .before .before .before .before .pre) (t .before .loop .inv) .0
 
 same-length-2 : tie.Need-same-length-2 Inv-loop μ-loop
-same-length-2 c = c .before .before .before .before .before .before .before .before .before .before .before .before .before .walk .kept .1 .1 .1 .1 .1 .0 ∙ run-lengths (c .before .before .before .before .before .before .before .before .before .before .before .before .before .before .before .before .before .before .before .before .before .before .before .before .before .before .before .before .before .before .pre) (c .before .before .before .before .before .before .before .before .before .before .before .before .before .before .before .before .before .before .before .before .before .loop .inv) .1
+same-length-2 c =
+    let w = c .before .before .before .before .before .before .before .before .before .before .before .before .before in
+    let t = w .before .before .before .before .before .before .before in
+    w .walk .kept .1 .1 .1 .1 .1 .0 ∙ run-lengths (t .before .before .before .before .before .before .before .before .before .before .pre) (t .before .loop .inv) .1
 
 same-length-3 : tie.Need-same-length-3 Inv-loop μ-loop
-same-length-3 c = c .before .before .before .before .before .before .before .before .before .before .before .before .before .walk .kept .1 .1 .1 .1 .1 .1 .1 .0 ∙ run-lengths (c .before .before .before .before .before .before .before .before .before .before .before .before .before .before .before .before .before .before .before .before .before .before .before .before .before .before .before .before .before .before .pre) (c .before .before .before .before .before .before .before .before .before .before .before .before .before .before .before .before .before .before .before .before .before .loop .inv) .2
+same-length-3 c =
+    let w = c .before .before .before .before .before .before .before .before .before .before .before .before .before in
+    let t = w .before .before .before .before .before .before .before in
+    w .walk .kept .1 .1 .1 .1 .1 .1 .1 .0 ∙ run-lengths (t .before .before .before .before .before .before .before .before .before .before .pre) (t .before .loop .inv) .2
 
 same-length-4 : tie.Need-same-length-4 Inv-loop μ-loop
-same-length-4 c = c .before .before .before .before .before .before .before .before .before .before .before .before .before .walk .kept .1 .1 .1 .1 .1 .1 .1 .1 .0 ∙ run-lengths (c .before .before .before .before .before .before .before .before .before .before .before .before .before .before .before .before .before .before .before .before .before .before .before .before .before .before .before .before .before .before .pre) (c .before .before .before .before .before .before .before .before .before .before .before .before .before .before .before .before .before .before .before .before .before .loop .inv) .3
+same-length-4 c =
+    let w = c .before .before .before .before .before .before .before .before .before .before .before .before .before in
+    let t = w .before .before .before .before .before .before .before in
+    w .walk .kept .1 .1 .1 .1 .1 .1 .1 .1 .0 ∙ run-lengths (t .before .before .before .before .before .before .before .before .before .before .pre) (t .before .loop .inv) .3
 
 same-length-5 : tie.Need-same-length-5 Inv-loop μ-loop
-same-length-5 c = c .before .before .before .before .before .before .before .before .before .before .before .before .before .walk .kept .1 .1 .1 .1 .1 .1 .1 .1 .1 .0 ∙ run-lengths (c .before .before .before .before .before .before .before .before .before .before .before .before .before .before .before .before .before .before .before .before .before .before .before .before .before .before .before .before .before .before .pre) (c .before .before .before .before .before .before .before .before .before .before .before .before .before .before .before .before .before .before .before .before .before .loop .inv) .4
+same-length-5 c =
+    let w = c .before .before .before .before .before .before .before .before .before .before .before .before .before in
+    let t = w .before .before .before .before .before .before .before in
+    w .walk .kept .1 .1 .1 .1 .1 .1 .1 .1 .1 .0 ∙ run-lengths (t .before .before .before .before .before .before .before .before .before .before .pre) (t .before .loop .inv) .4
 
 returns : tie.Need-returns Inv-loop μ-loop
 returns c =
-    run-stops (c .before .before .before .before .before .before .before .before .before .before .before .before .before .before .before .before .before .before .before .before .before .loop .rank) (c .before .before .before .before .before .before .before .before .before .before .before .before .before .before .before .before .before .before .before .before .before .before .before .before .before .before .before .before .before .before .pre) (c .before .before .before .before .before .before .before .before .before .before .before .before .before .before .before .before .before .before .before .before .before .loop .inv) (c .before .before .before .before .before .before .before .before .before .before .before .before .before .before .before .before .before .before .before .before .loop-test .taken) (c .before .before .before .before .before .before .before .before .before .before .before .before .before .walk .result) _ _ _ _ _
-    (c .before .before .before .before .before .before .before .before .before .before .before .before .before .walk .ensures .0) (c .before .before .before .before .before .before .before .before .before .before .before .before .before .walk .ensures .1) (c .before .before .verdict-of .result) _ (c .before .before .verdict-of .ensures)
-    (c .enum-told2 .given .1)
+    let v = c .before .before in
+    let w = v .before .before .before .before .before .before .before .before .before .before .before in
+    let t = w .before .before .before .before .before .before .before in
+    run-stops (t .before .before .before .before .before .before .before .before .before .before .pre) (t .before .loop .inv) (t .loop-test .taken) (w .walk .ensures .0) (w .walk .ensures .1)
+    (v .verdict-of .ensures) (c .enum-told2 .given .1)
 
 add-rank : tie.Need-add-rank Inv-loop μ-loop
 add-rank c = omega arith
@@ -70,8 +92,11 @@ loop-less c = omega arith
 
 loop-again : tie.Need-loop-again Inv-loop μ-loop
 loop-again c =
-    run-next (c .before .before .before .before .before .before .before .before .before .before .before .before .before .before .before .before .before .before .before .before .before .loop .rank) (c .before .before .before .before .before .before .before .before .before .before .before .before .before .before .before .before .before .before .before .before .before .before .before .before .before .before .before .before .before .before .pre) (c .before .before .before .before .before .before .before .before .before .before .before .before .before .before .before .before .before .before .before .before .before .loop .inv) (c .before .before .before .before .before .before .before .before .before .before .before .before .before .before .before .before .before .before .before .before .loop-test .taken) (c .before .before .before .before .before .before .before .before .before .before .before .before .before .walk .result) _ _ _ _ _
-    (c .before .before .before .before .before .before .before .before .before .before .before .before .before .walk .ensures .0) (c .before .before .before .before .before .before .before .before .before .before .before .before .before .walk .ensures .1) (sym (c .before .before .verdict-of .ensures) ∙ c .enum-told .given .1)
+    let v = c .before .before in
+    let w = v .before .before .before .before .before .before .before .before .before .before .before in
+    let t = w .before .before .before .before .before .before .before in
+    run-next (t .before .before .before .before .before .before .before .before .before .before .pre) (t .before .loop .inv) (t .loop-test .taken) (w .walk .ensures .0) (w .walk .ensures .1)
+    (sym (v .verdict-of .ensures) ∙ c .enum-told .given .1)
 
 same-length-6 : tie.Need-same-length-6 Inv-loop μ-loop
 same-length-6 c = run-lengths (c .before .before .before .before .before .before .before .before .before .before .pre) (c .before .loop .inv) .0

@@ -1,10 +1,10 @@
 -- The invariant: a frame that stands at no queue place still to come is 0 in the met room, the queue is 0 at the places
 -- passed and as lent behind them. The turn clears the frame at i and the place i; it ends as i rises to the tail.
-use Prim.Native.Nat.{ℕ, _+_, _-_, _*_, _≤_, _<_}
+use Prim.Native.Nat.{ℕ, _-_, _≤_, _<_}
 use mathlib.Core.Path.{_≡_, refl, sym, ap, _∙_}
 use native.Mathlib.Decide.{ℕ-discrete}
 use native.Mathlib.Omega.{arith}
-use lib.ListN.{length, getD, set, replicate, length-set, length-replicate, getD-replicate}
+use lib.ListN.{length, getD, replicate, length-set, length-replicate, getD-replicate}
 use lib.Seq.{ext-getD}
 use Rattle.basics.proofs.Laws.{by-cases, at-set}
 use Rattle.build.proofs.settle.clean.Statement.{statement}
@@ -48,11 +48,12 @@ cast-v c = omega (arith, c .slice-known .given (c .before .before .loop .at))
 -- the frame at i lies in the met room
 low : (c : tie.After-slice-known Inv-loop μ-loop) → getD (c .before .before .loop .queue) (c .before .before .loop .at) 0 < length (c .before .before .loop .met)
 low c =
+    let l = c .before .before .loop in
     omega (
       arith,
-      c .before .before .loop .inv .5 (c .before .before .loop .at) (omega arith),
-      c .before .before .before .pre .low (c .before .before .loop .at) (c .before .loop-test .taken),
-      c .before .before .loop .inv .1,
+      l .inv .5 (l .at) (omega arith),
+      c .before .before .before .pre .low (l .at) (c .before .loop-test .taken),
+      l .inv .1,
     )
 
 mul-met : tie.Need-mul-met Inv-loop μ-loop
@@ -75,24 +76,26 @@ loop-less c = omega arith
 
 loop-again : tie.Need-loop-again Inv-loop μ-loop
 loop-again c =
-    let met = c .before .before .loop .met in
-    let queue = c .before .before .loop .queue in
-    let i = c .before .before .loop .at in
-    let here : getD queue i 0 ≡ getD (c .before .before .before .args .queue .now) i 0 = c .before .before .loop .inv .5 i (omega arith) in (
+    let l = c .before .before .loop in
+    let a = c .before .before .before .args in
+    let met = l .met in
+    let queue = l .queue in
+    let i = l .at in
+    let here : getD queue i 0 ≡ getD (a .queue .now) i 0 = l .inv .5 i (omega arith) in (
       omega arith,
-      length-set met (getD queue i 0) 0 ∙ c .before .before .loop .inv .1,
-      length-set queue i 0 ∙ c .before .before .loop .inv .2,
+      length-set met (getD queue i 0) 0 ∙ l .inv .1,
+      length-set queue i 0 ∙ l .inv .2,
       λ v h out.
           at-set met (getD queue i 0) v 0 0 0 (low c) (λ e. refl)
           (λ ne.
-          c .before .before .loop .inv .3 v h
-          (λ j g l is.
-          by-cases (ℕ-discrete j i) (λ (e : j ≡ i). ne (sym is ∙ ap (λ (k : ℕ). getD (c .before .before .before .args .queue .now) k 0) e ∙ sym here))
-          (λ e. out j (omega arith) l is))),
-      λ j h. at-set queue i j 0 0 0 (omega arith) (λ e. refl) (λ ne. c .before .before .loop .inv .4 j (omega arith)),
+          l .inv .3 v h
+          (λ j g b is.
+          by-cases (ℕ-discrete j i) (λ (e : j ≡ i). ne (sym is ∙ ap (λ (k : ℕ). getD (a .queue .now) k 0) e ∙ sym here))
+          (λ e. out j (omega arith) b is))),
+      λ j h. at-set queue i j 0 0 0 (omega arith) (λ e. refl) (λ ne. l .inv .4 j (omega arith)),
       λ j h.
-          at-set queue i j 0 0 (getD (c .before .before .before .args .queue .now) j 0) (omega arith) (λ (e : j ≡ i). absurd (omega arith))
-          (λ ne. c .before .before .loop .inv .5 j (omega arith)),
+          at-set queue i j 0 0 (getD (a .queue .now) j 0) (omega arith) (λ (e : j ≡ i). absurd (omega arith))
+          (λ ne. l .inv .5 j (omega arith)),
     )
 
 same-length : tie.Need-same-length Inv-loop μ-loop
@@ -103,16 +106,17 @@ same-length-2 c = c .before .loop .inv .2
 
 returns : tie.Need-returns Inv-loop μ-loop
 returns c =
-    let n = length (c .before .before .args .met .now) in (
+    let s = c .before .before in
+    let n = length (s .args .met .now) in (
       ext-getD 0 (c .before .loop .met) (replicate n 0) (c .before .loop .inv .1 ∙ sym (length-replicate n 0))
           (λ v h.
           c .before .loop .inv .3 v (omega (arith, c .before .loop .inv .1)) (λ j g l is. absurd (omega arith))
           ∙ sym (getD-replicate n v 0 0 (omega (arith, c .before .loop .inv .1)))),
-      ext-getD 0 (c .before .loop .queue) (replicate n 0) (c .before .loop .inv .2 ∙ c .before .before .pre .long ∙ sym (length-replicate n 0))
+      ext-getD 0 (c .before .loop .queue) (replicate n 0) (c .before .loop .inv .2 ∙ s .pre .long ∙ sym (length-replicate n 0))
           (λ j h.
           by-cases (native.Mathlib.Decide.decLt j (c .before .loop .at)) (c .before .loop .inv .4 j)
-          (λ g. c .before .loop .inv .5 j (omega arith) ∙ c .before .before .pre .rest j (omega arith))
-          ∙ sym (getD-replicate n j 0 0 (omega (arith, c .before .loop .inv .2, c .before .before .pre .long)))),
+          (λ g. c .before .loop .inv .5 j (omega arith) ∙ s .pre .rest j (omega arith))
+          ∙ sym (getD-replicate n j 0 0 (omega (arith, c .before .loop .inv .2, s .pre .long)))),
     )
 
 pub clean-spec : {M : Type 1} → statement M

@@ -1,8 +1,8 @@
 -- The invariant: no frame at the queue places passed lacks room. It holds again by the test of the frame at i, and it ends
 -- as i rises to the tail; the queue holds every met frame, so then no frame lacks room.
-use Prim.Native.Nat.{ℕ, _+_, _-_, _*_, _≤_, _<_}
-use mathlib.Core.Path.{_≡_, refl, sym, ap, _∙_}
-use mathlib.Core.Bool.{Bool, true, false}
+use Prim.Native.Nat.{ℕ, _-_, _≤_, _<_}
+use mathlib.Core.Path.{_≡_, sym, _∙_}
+use mathlib.Core.Bool.{false}
 use native.Mathlib.Omega.{arith}
 use borrow.Author.Count.{below-more}
 use lib.ListN.{length, getD}
@@ -30,26 +30,35 @@ shared-slice-read-v c = omega arith
 cast-v : tie.Need-cast-v Inv-loop μ-loop
 cast-v c = omega (arith, c .shared-slice-known4 .given (c .before .before .loop .at))
 
+-- the frame at the place that a turn looks at lies in the rooms and is met
+low : (c : tie.In-loop Inv-loop μ-loop)
+    → getD (c .before .before .before .before .before .args .queue .now) (c .before .loop .at) 0 < length (c .before .before .before .before .before .args .met .now)
+low c = c .before .before .before .before .before .pre .1 .low (c .before .loop .at) (c .loop-test .taken)
+
 mul-lacks-room : tie.Need-mul-lacks-room Inv-loop μ-loop
-mul-lacks-room c = omega (arith, c .before .before .before .before .before .before .pre .1 .low (c .before .before .loop .at) (c .before .loop-test .taken))
+mul-lacks-room c = omega (arith, low (c .before))
 
 shared-slice-read-lacks-room : tie.Need-shared-slice-read-lacks-room Inv-loop μ-loop
-shared-slice-read-lacks-room c = omega (arith, c .before .before .before .before .before .before .before .pre .1 .low (c .before .before .before .loop .at) (c .before .before .loop-test .taken))
+shared-slice-read-lacks-room c = omega (arith, low (c .before .before), c .before .before .before .before .before .before .before .pre .0)
 
 mul-lacks-room-2 : tie.Need-mul-lacks-room-2 Inv-loop μ-loop
-mul-lacks-room-2 c = omega (arith, c .before .before .before .before .before .before .before .pre .1 .low (c .before .before .before .loop .at) (c .before .before .loop-test .taken))
+mul-lacks-room-2 c = omega (arith, low (c .before .before))
 
 shared-slice-read-lacks-room-2 : tie.Need-shared-slice-read-lacks-room-2 Inv-loop μ-loop
-shared-slice-read-lacks-room-2 c = omega (arith, c .before .before .before .before .before .before .before .before .pre .1 .low (c .before .before .before .before .loop .at) (c .before .before .before .loop-test .taken))
+shared-slice-read-lacks-room-2 c = low (c .before .before .before)
 
 lacks-room-requires : tie.Need-lacks-room-requires Inv-loop μ-loop
-lacks-room-requires c κs = c .before .before .before .before .before .before .before .before .pre .1 .marked (c .before .before .before .before .loop .at) (c .before .before .before .loop-test .taken)
+lacks-room-requires c κs =
+    let t = c .before .before .before in
+    t .before .before .before .before .before .pre .1 .marked (t .before .loop .at) (t .loop-test .taken)
 
 returns : tie.Need-returns Inv-loop μ-loop
 returns c =
+    let t = c .before .before .before .before .before in
+    let s = t .before .before .before .before .before in
     sym
-    (fits-not (c .before .before .before .before .before .before .before .before .before .before .args .w) (c .before .before .before .before .before .before .before .before .before .before .args .counts .now) (c .before .before .before .before .before .before .before .before .before .before .args .met .now) (c .before .before .before .before .before .before .before .before .before .before .args .queue .now) (c .before .before .before .before .before .before .before .before .before .before .args .tail)
-    (c .before .before .before .before .before .before .before .before .before .before .pre .1) (c .before .before .before .before .before .before .loop .at) (c .before .before .before .before .before .loop-test .taken) (sym (c .before .lacks-room .ensures) ∙ c .if1 .taken))
+    (fits-not (s .args .w) (s .args .counts .now) (s .pre .1) (t .before .loop .at) (t .loop-test .taken)
+    (sym (c .before .lacks-room .ensures) ∙ c .if1 .taken))
 
 add-at : tie.Need-add-at Inv-loop μ-loop
 add-at c = omega arith
@@ -66,9 +75,9 @@ loop-again c = (
 
 returns-2 : tie.Need-returns-2 Inv-loop μ-loop
 returns-2 c =
+    let s = c .before .before .before .before .before in
     sym
-    (fits-done (c .before .before .before .before .before .args .w) (c .before .before .before .before .before .args .counts .now) (c .before .before .before .before .before .args .met .now) (c .before .before .before .before .before .args .queue .now) (c .before .before .before .before .before .args .tail)
-    (c .before .before .before .before .before .pre .1) (λ j h. c .before .loop .inv .1 j (omega arith)))
+    (fits-done (s .args .w) (s .args .counts .now) (s .pre .1) (λ j h. c .before .loop .inv .1 j (omega arith)))
 
 pub fits-spec : {M : Type 1} → statement M
 fits-spec =

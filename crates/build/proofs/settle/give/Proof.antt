@@ -1,12 +1,10 @@
 -- Dropped: nothing is stored. Kept: the row has room, so its next place lies in the label room.
-use Prim.Native.Nat.{ℕ, _+_, _-_, _*_, _≤_, _<_}
-use mathlib.Core.Path.{_≡_, refl, sym, ap, _∙_}
-use mathlib.Core.Bool.{Bool, true, false, cond}
-use mathlib.Core.List.{List}
+use Prim.Native.Nat.{ℕ, _+_, _*_, _<_}
+use mathlib.Core.Path.{_≡_, sym, ap, _∙_}
+use mathlib.Core.Bool.{true, false}
 use native.Mathlib.Omega.{arith}
 use borrow.Author.Needs.{needs}
-use lib.ListN.{length, getD, set, length-set}
-use Rattle.rows.specs.Entry.{entryOf}
+use lib.ListN.{length, getD, set}
 use Rattle.basics.proofs.Laws.{cond-true, cond-false}
 use Rattle.build.specs.Settle.{isKept}
 use Rattle.build.proofs.RoomLaws.{row-place}
@@ -16,7 +14,8 @@ use Rattle.build.proofs.settle.give.Tie as tie
 
 returns : tie.Need-returns
 returns c =
-    let drop-mark : isKept (c .before .before .before .args .mark) ≡ false = dropped-mark (c .before .before .before .args .mark) (c .if1 .taken) in
+    let a = c .before .before .before .args in
+    let drop-mark : isKept (a .mark) ≡ false = dropped-mark (a .mark) (c .if1 .taken) in
     (sym (cond-false _ _ drop-mark), sym (cond-false _ _ drop-mark))
 
 mul-count : tie.Need-mul-count
@@ -26,14 +25,21 @@ slice-read-count : tie.Need-slice-read-count
 slice-read-count c = c .before .before .before .before .pre .inside
 
 is-kept : (c : tie.Else1) → isKept (c .before .before .before .args .mark) ≡ true
-is-kept c = kept-mark (c .before .before .before .args .mark) (c .before .before .before .pre .met) (c .if1 .left)
+is-kept c =
+    let s = c .before .before .before in
+    kept-mark (s .args .mark) (s .pre .met) (c .if1 .left)
 
 -- the place behind the row of v
-inside : (c : tie.Else1)
-    → c .before .before .before .args .v * c .before .before .before .args .w + getD (c .before .before .before .args .counts .now) (c .before .before .before .args .v) 0 < length (c .before .before .before .args .labels .now)
-inside c = rw (c .before .before .before .pre .long) (row-place (c .before .before .before .pre .inside) (c .before .before .before .pre .room (is-kept c)))
+inside : (c : tie.Else1) →
+    let a = c .before .before .before .args in
+    a .v * a .w + getD (a .counts .now) (a .v) 0 < length (a .labels .now)
+inside c =
+    let p = c .before .before .before .pre in
+    rw (p .long) (row-place (p .inside) (p .room (is-kept c)))
 
-few : (c : tie.Else1) → getD (c .before .before .before .args .counts .now) (c .before .before .before .args .v) 0 < 256
+few : (c : tie.Else1) →
+    let a = c .before .before .before .args in
+    getD (a .counts .now) (a .v) 0 < 256
 few c = omega (arith, c .before .before .before .pre .room (is-kept c))
 
 sub-level : tie.Need-sub-level
@@ -77,9 +83,10 @@ same-length-2 c = search needs
 
 returns-2 : tie.Need-returns-2
 returns-2 c =
-    let kept : isKept (c .before .before .before .before .before .args .mark) ≡ true = is-kept (c .before .before) in
-    let at : ℕ = c .before .before .before .before .before .args .v * c .before .before .before .before .before .args .w + getD (c .before .before .before .before .before .args .counts .now) (c .before .before .before .before .before .args .v) 0 in
-    (ap (λ (e : ℕ). set (c .before .before .before .before .before .args .labels .now) at e) (c .entry-of .ensures) ∙ sym (cond-true _ _ kept), sym (cond-true _ _ kept))
+    let a = c .before .before .before .before .before .args in
+    let kept : isKept (a .mark) ≡ true = is-kept (c .before .before) in
+    let at : ℕ = a .v * a .w + getD (a .counts .now) (a .v) 0 in
+    (ap (λ (e : ℕ). set (a .labels .now) at e) (c .entry-of .ensures) ∙ sym (cond-true _ _ kept), sym (cond-true _ _ kept))
 
 pub give-spec : {M : Type 1} → statement M
 give-spec =

@@ -1,9 +1,8 @@
 -- Each way out goes by the test that led there: dropped, or kept and the count against the width.
-use Prim.Native.Nat.{ℕ, _≤_, _<_}
-use mathlib.Core.Path.{_≡_, refl, sym, ap, _∙_}
-use mathlib.Core.Bool.{Bool, true, false, _&&_}
+use mathlib.Core.Path.{sym, ap}
+use mathlib.Core.Bool.{Bool, _&&_}
 use lib.Dec.{leb}
-use Rattle.build.specs.Settle.{isKept, lacksRoom}
+use Rattle.build.specs.Settle.{lacksRoom}
 use Rattle.build.proofs.RoomMarks.{kept-mark, dropped-mark}
 use Rattle.build.proofs.settle.lacks_room.Statement.{statement}
 use Rattle.build.proofs.settle.lacks_room.Tie as tie

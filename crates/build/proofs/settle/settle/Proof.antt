@@ -31,7 +31,7 @@ returns c =
     let stored = c .before .before .before .before .store .ensures in
     let f = c .before .before .before .before .before .before .before in
     let t = f .before in
-    let made = settle-made (t .before .before .before .before .before .before .before .pre) (sym (t .before .fits2 .ensures) ∙ t .if1 .taken) (f .if2 .taken) in
+    let made = settle-made (t .before .before .before .before .before .before .before .pre) (sym (t .before .fits2 .ensures) ∙ t .if1 .taken) (omega (arith, f .if2 .taken)) in
     (sym made, (stored .0, stored .1))
 
 same-length-3 : tie.Need-same-length-3

@@ -1,22 +1,16 @@
 -- The invariant: the two rooms hold the rows after the walk for the frames at the queue places passed, and those before it
 -- for the others. A turn gives the frame at i its entry; it ends as i rises to the tail, and the queue holds every met frame.
-use Prim.Native.Nat.{ℕ, _+_, _-_, _*_, _≤_, _<_}
-use mathlib.Core.Path.{_≡_, refl, sym, ap, _∙_}
+use Prim.Native.Nat.{ℕ, _-_, _*_, _≤_, _<_}
+use mathlib.Core.Path.{_≡_, sym, ap, _∙_}
 use mathlib.Core.List.{List}
-use mathlib.Core.Bool.{Bool, true, false, cond}
 use native.Mathlib.Omega.{arith}
-use lib.ListN.{length, getD, set}
+use lib.ListN.{length, getD}
 use Rattle.theory.specs.Rows.{Row}
-use Rattle.rows.specs.Entry.{entryOf}
 use Rattle.build.specs.Build.{labelsOf, countsOf}
-use Rattle.build.specs.Settle.{rowsIn, rowsAfter, isKept, SettleIn}
-use Rattle.build.proofs.RoomLaws.{labels-ext, counts-ext, length-labels, length-counts, count-at}
-use Rattle.build.proofs.RoomMarks.{partly, partly-none, still, room-left, labels-step, counts-step, all-turns}
+use Rattle.build.proofs.RoomLaws.{length-labels, length-counts, count-at}
+use Rattle.build.proofs.RoomMarks.{upto, still, room-left, labels-begin, counts-begin, labels-step, counts-step, labels-end, counts-end}
 use Rattle.build.proofs.settle.store.Statement.{statement}
 use Rattle.build.proofs.settle.store.Tie as tie
-
-abbrev upto : ℕ → ℕ → List ℕ → List ℕ → List ℕ → List ℕ → ℕ → ℕ → Row
-upto w rank labels counts met queue i = partly queue i (rowsIn w labels counts) (rowsAfter w rank labels counts met)
 
 abbrev Inv-loop : tie.InvT-loop
 Inv-loop w rank labels₀ counts₀ met queue tail i₀ labels counts i =
@@ -29,16 +23,8 @@ abbrev μ-loop : tie.MeasureT-loop
 
 loop-holds : tie.Need-loop-holds Inv-loop μ-loop
 loop-holds c =
-    let w = c .before .before .before .before .args .w in
-    let R : ℕ → Row = rowsIn w (c .before .before .before .before .args .labels .now) (c .before .before .before .before .args .counts .now) in
-    let R′ : ℕ → Row = rowsAfter w (c .before .before .before .before .args .rank) (c .before .before .before .before .args .labels .now) (c .before .before .before .before .args .counts .now) (c .before .before .before .before .args .met .now) in
-    let P : ℕ → Row = partly (c .before .before .before .before .args .queue .now) 0 R R′ in
-    let n = length (c .before .before .before .before .args .met .now) in (
-      omega arith,
-      c .before .before .before .before .pre .0 .laid .places
-          ∙ labels-ext n w R P (c .before .before .before .before .pre .0 .wide) (λ v h. sym (partly-none (c .before .before .before .before .args .queue .now) R R′ v)),
-      c .before .before .before .before .pre .0 .laid .numbers ∙ counts-ext n R P (λ v h. sym (partly-none (c .before .before .before .before .args .queue .now) R R′ v)),
-    )
+    let s = c .before .before .before .before in
+    (omega arith, labels-begin (s .args .rank) (s .pre .0) (s .pre .1), counts-begin (s .args .rank) (s .pre .0) (s .pre .1))
 
 mul-v : tie.Need-mul-v Inv-loop μ-loop
 mul-v c = omega arith
@@ -49,32 +35,39 @@ shared-slice-read-v c = omega arith
 cast-v : tie.Need-cast-v Inv-loop μ-loop
 cast-v c = omega (arith, c .shared-slice-known3 .given (c .before .before .loop .at))
 
+-- the frame at the place that a turn looks at lies in the rooms
+low : (c : tie.In-loop Inv-loop μ-loop)
+    → getD (c .before .before .before .before .before .before .args .queue .now) (c .before .loop .at) 0 < length (c .before .before .before .before .before .before .args .met .now)
+low c = c .before .before .before .before .before .before .pre .0 .queued .low (c .before .loop .at) (c .loop-test .taken)
+
 mul-give : tie.Need-mul-give Inv-loop μ-loop
-mul-give c = omega (arith, c .before .before .before .before .before .before .before .pre .0 .queued .low (c .before .before .loop .at) (c .before .loop-test .taken))
+mul-give c = omega (arith, low (c .before))
 
 shared-slice-read-give : tie.Need-shared-slice-read-give Inv-loop μ-loop
-shared-slice-read-give c = c .before .before .before .before .before .before .before .before .pre .0 .queued .low (c .before .before .before .loop .at) (c .before .before .loop-test .taken)
+shared-slice-read-give c = low (c .before .before)
 
 give-requires : tie.Need-give-requires Inv-loop μ-loop
 give-requires c κs =
-    let a = c .before .before .before .before .before .before .before .before .before .before .args in
-    let w = c .before .before .before .before .before .before .before .before .before .before .args .w in
-    let i = c .before .before .before .before .before .loop .at in
-    let v = getD (c .before .before .before .before .before .before .before .before .before .before .args .queue .now) i 0 in
-    let n = length (c .before .before .before .before .before .before .before .before .before .before .args .met .now) in
-    let P : ℕ → Row = upto w (c .before .before .before .before .before .before .before .before .before .before .args .rank) (c .before .before .before .before .before .before .before .before .before .before .args .labels .now) (c .before .before .before .before .before .before .before .before .before .before .args .counts .now) (c .before .before .before .before .before .before .before .before .before .before .args .met .now) (c .before .before .before .before .before .before .before .before .before .before .args .queue .now) i in
-    let low : v < n = c .before .before .before .before .before .before .before .before .before .before .pre .0 .queued .low i (c .before .before .before .before .loop-test .taken) in
-    let long : length (c .before .before .before .before .before .loop .counts) ≡ n = ap length (c .before .before .before .before .before .loop .inv .2) ∙ length-counts n P in
+    let t = c .before .before .before .before .loop-test in
+    let l = c .before .before .before .before .before .loop in
+    let s = c .before .before .before .before .before .before .before .before .before .before in
+    let w = s .args .w in
+    let i = l .at in
+    let v = getD (s .args .queue .now) i 0 in
+    let n = length (s .args .met .now) in
+    let P : ℕ → Row = upto w (s .args .rank) (s .args .labels .now) (s .args .counts .now) (s .args .met .now) (s .args .queue .now) i in
+    let inside : v < n = s .pre .0 .queued .low i (t .taken) in
+    let long : length (l .counts) ≡ n = ap length (l .inv .2) ∙ length-counts n P in
     record {
-      met = c .before .before .before .before .before .before .before .before .before .before .pre .0 .queued .marked (c .before .before .before .before .before .loop .at) (c .before .before .before .before .loop-test .taken);
+      met = s .pre .0 .queued .marked (l .at) (t .taken);
       inside = omega arith;
-      long = ap length (c .before .before .before .before .before .loop .inv .1) ∙ length-labels n w P ∙ ap (λ (k : ℕ). k * w) (sym long);
-      width = c .before .before .before .before .before .before .before .before .before .before .pre .0 .width;
+      long = ap length (l .inv .1) ∙ length-labels n w P ∙ ap (λ (k : ℕ). k * w) (sym long);
+      width = s .pre .0 .width;
       room =
           λ kept.
-          rw (ap (λ (l : List ℕ). getD l v 0) (c .before .before .before .before .before .loop .inv .2) ∙ count-at n P v low
-          ∙ ap length (still w (c .before .before .before .before .before .before .before .before .before .before .args .rank) (c .before .before .before .before .before .before .before .before .before .before .args .labels .now) (c .before .before .before .before .before .before .before .before .before .before .args .counts .now) (c .before .before .before .before .before .before .before .before .before .before .args .met .now) (c .before .before .before .before .before .before .before .before .before .before .args .queue .now) (c .before .before .before .before .before .before .before .before .before .before .args .tail) (c .before .before .before .before .before .before .before .before .before .before .pre .0) (c .before .before .before .before .before .before .before .before .before .before .pre .1) i (c .before .before .before .before .loop-test .taken)))
-          (room-left w (c .before .before .before .before .before .before .before .before .before .before .args .rank) (c .before .before .before .before .before .before .before .before .before .before .args .labels .now) (c .before .before .before .before .before .before .before .before .before .before .args .counts .now) (c .before .before .before .before .before .before .before .before .before .before .args .met .now) (c .before .before .before .before .before .before .before .before .before .before .args .queue .now) (c .before .before .before .before .before .before .before .before .before .before .args .tail) (c .before .before .before .before .before .before .before .before .before .before .pre .0) (c .before .before .before .before .before .before .before .before .before .before .pre .1) v low kept);
+          rw (ap (λ (x : List ℕ). getD x v 0) (l .inv .2) ∙ count-at n P v inside
+          ∙ ap length (still (s .args .rank) (s .pre .0) (s .pre .1) i (t .taken)))
+          (room-left (s .args .rank) (s .pre .0) (s .pre .1) v inside kept);
     }
 
 add-at : tie.Need-add-at Inv-loop μ-loop
@@ -84,16 +77,18 @@ loop-less : tie.Need-loop-less Inv-loop μ-loop
 loop-less c = omega arith
 
 loop-again : tie.Need-loop-again Inv-loop μ-loop
-loop-again c = (
-  omega arith,
-  c .before .before .before .before .give .ensures .0
-      ∙ labels-step (c .before .before .before .before .before .before .before .before .before .before .before .before .before .before .before .args .w) (c .before .before .before .before .before .before .before .before .before .before .before .before .before .before .before .args .rank) (c .before .before .before .before .before .before .before .before .before .before .before .before .before .before .before .args .labels .now) (c .before .before .before .before .before .before .before .before .before .before .before .before .before .before .before .args .counts .now) (c .before .before .before .before .before .before .before .before .before .before .before .before .before .before .before .args .met .now) (c .before .before .before .before .before .before .before .before .before .before .before .before .before .before .before .args .queue .now) (c .before .before .before .before .before .before .before .before .before .before .before .before .before .before .before .args .tail)
-      (c .before .before .before .before .before .before .before .before .before .before .before .before .before .before .before .pre .0) (c .before .before .before .before .before .before .before .before .before .before .before .before .before .before .before .pre .1) (c .before .before .before .before .before .before .before .before .before .before .loop .at) (c .before .before .before .before .before .before .before .before .before .before .loop .labels) (c .before .before .before .before .before .before .before .before .before .before .loop .counts) (c .before .before .before .before .before .before .before .before .before .loop-test .taken)
-      (c .before .before .before .before .before .before .before .before .before .before .loop .inv .1) (c .before .before .before .before .before .before .before .before .before .before .loop .inv .2),
-  c .before .before .before .before .give .ensures .1
-      ∙ counts-step (c .before .before .before .before .before .before .before .before .before .before .before .before .before .before .before .args .w) (c .before .before .before .before .before .before .before .before .before .before .before .before .before .before .before .args .rank) (c .before .before .before .before .before .before .before .before .before .before .before .before .before .before .before .args .labels .now) (c .before .before .before .before .before .before .before .before .before .before .before .before .before .before .before .args .counts .now) (c .before .before .before .before .before .before .before .before .before .before .before .before .before .before .before .args .met .now) (c .before .before .before .before .before .before .before .before .before .before .before .before .before .before .before .args .queue .now) (c .before .before .before .before .before .before .before .before .before .before .before .before .before .before .before .args .tail)
-      (c .before .before .before .before .before .before .before .before .before .before .before .before .before .before .before .pre .0) (c .before .before .before .before .before .before .before .before .before .before .before .before .before .before .before .pre .1) (c .before .before .before .before .before .before .before .before .before .before .loop .at) (c .before .before .before .before .before .before .before .before .before .before .loop .counts) (c .before .before .before .before .before .before .before .before .before .loop-test .taken) (c .before .before .before .before .before .before .before .before .before .before .loop .inv .2),
-)
+loop-again c =
+    let give = c .before .before .before .before .give in
+    let t = c .before .before .before .before .before .before .before .before .before .loop-test in
+    let l = c .before .before .before .before .before .before .before .before .before .before .loop in
+    let s = c .before .before .before .before .before .before .before .before .before .before .before .before .before .before .before in (
+      omega arith,
+      give .ensures .0
+          ∙ labels-step (s .args .rank) (s .pre .0) (s .pre .1) (l .at) (l .labels) (l .counts) (t .taken)
+          (l .inv .1) (l .inv .2),
+      give .ensures .1
+          ∙ counts-step (s .args .rank) (s .pre .0) (s .pre .1) (l .at) (l .counts) (t .taken) (l .inv .2),
+    )
 
 same-length : tie.Need-same-length Inv-loop μ-loop
 same-length c =
@@ -107,16 +102,11 @@ same-length-2 c =
 
 returns : tie.Need-returns Inv-loop μ-loop
 returns c =
-    let w = c .before .before .before .before .before .before .args .w in
-    let n = length (c .before .before .before .before .before .before .args .met .now) in
-    let R′ : ℕ → Row = rowsAfter w (c .before .before .before .before .before .before .args .rank) (c .before .before .before .before .before .before .args .labels .now) (c .before .before .before .before .before .before .args .counts .now) (c .before .before .before .before .before .before .args .met .now) in
-    let P : ℕ → ℕ → Row = upto w (c .before .before .before .before .before .before .args .rank) (c .before .before .before .before .before .before .args .labels .now) (c .before .before .before .before .before .before .args .counts .now) (c .before .before .before .before .before .before .args .met .now) (c .before .before .before .before .before .before .args .queue .now) in
-    let end : c .before .loop .at ≡ c .before .before .before .before .before .before .args .tail = omega arith in
-    let same : (v : ℕ) → v < n → P (c .before .loop .at) v ≡ R′ v =
-    λ v h. ap (λ (i : ℕ). P i v) end
-    ∙ all-turns (c .before .before .before .before .before .before .args .w) (c .before .before .before .before .before .before .args .rank) (c .before .before .before .before .before .before .args .labels .now) (c .before .before .before .before .before .before .args .counts .now) (c .before .before .before .before .before .before .args .met .now) (c .before .before .before .before .before .before .args .queue .now) (c .before .before .before .before .before .before .args .tail) (c .before .before .before .before .before .before .pre .0) (c .before .before .before .before .before .before .pre .1) v h in (
-      c .before .loop .inv .1 ∙ labels-ext n w (P (c .before .loop .at)) R′ (c .before .before .before .before .before .before .pre .0 .wide) same,
-      c .before .loop .inv .2 ∙ counts-ext n (P (c .before .loop .at)) R′ same,
+    let l = c .before .loop in
+    let s = c .before .before .before .before .before .before in
+    let end : l .at ≡ s .args .tail = omega arith in (
+      (rw end at (l .inv .1)) ∙ labels-end (s .args .rank) (s .pre .0) (s .pre .1),
+      (rw end at (l .inv .2)) ∙ counts-end (s .args .rank) (s .pre .0) (s .pre .1),
     )
 
 pub store-spec : {M : Type 1} → statement M
