@@ -1,7 +1,8 @@
 // One build of a block, and every pair's answer held against the least sums of the searches.
+use crate::room::get;
 use crate::say;
 use crate::search::NONE;
-use crate::search::sum_of;
+use crate::search::sums_of;
 use crate::tally::Tally;
 use build::Built;
 use build::build;
@@ -12,7 +13,7 @@ use rows::pair::Answer;
 use rows::pair::pair;
 
 // Whether an answer is the count of the search.
-pub fn is_equal(said: Answer, joins: u32) -> bool {
+fn is_equal(said: Answer, joins: u32) -> bool {
     match said {
         Answer::Joins(sum) => {
             if joins == NONE {
@@ -25,22 +26,22 @@ pub fn is_equal(said: Answer, joins: u32) -> bool {
     }
 }
 
-// Whether every answer for s is the least sum; the first that is not is printed.
-fn compare_row(
+// Whether every answer for s is the count that the searches have for it; the first that is not is printed.
+pub fn compare_row(
     n: usize,
     w: usize,
     k: usize,
     labels: &[Entry],
     counts: &[u32],
-    sums: &[u32],
     s: usize,
+    joins: &[u32],
 ) -> bool {
     let mut t = 0;
     while t < n {
         let said = pair(n, w, labels, counts, s, t);
-        let joins = sum_of(sums, s, t);
-        if !is_equal(said, joins) {
-            say::difference(n, k, s, t, said, joins);
+        let count = get(joins, t);
+        if !is_equal(said, count) {
+            say::difference(n, k, s, t, said, count);
             return false;
         }
         t += 1;
@@ -61,7 +62,8 @@ fn compare(
     let mut tally = before.built();
     let mut s = 0;
     while s < n {
-        if !compare_row(n, w, k, labels, counts, sums, s) {
+        let row = sums_of(sums, s);
+        if !compare_row(n, w, k, labels, counts, s, row) {
             return tally.unequal();
         }
         tally = tally.compared(n);

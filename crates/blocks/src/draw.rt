@@ -1,6 +1,7 @@
-// Blocks and orders at random. A block is a square of marks, symmetric and without its diagonal, and is then laid out as
-// start positions and lists.
+// Blocks and orders at random. A block is a square of marks, symmetric and without its diagonal, and is then laid out, as
+// the grid is, as start positions and lists.
 ghost use Prim.Native.Nat.{_<_};
+use crate::grid::is_beside;
 use crate::room::get;
 use crate::room::push;
 use crate::room::put;
@@ -71,12 +72,27 @@ pub fn draw_path(marks: &mut [u32], n: usize) {
     }
 }
 
+// Whether a block joins two frames: the grid where they lie side by side, a drawn one where they are marked.
+fn is_joined(is_grid: bool, marks: &[u32], s: usize, t: usize) -> bool {
+    if is_grid {
+        return is_beside(s, t);
+    }
+    is_marked(marks, s, t)
+}
+
 // The list of frame v from place `from` on; the place behind it.
-fn lay_list(marks: &[u32], n: usize, v: usize, places: &mut [u32], from: usize) -> usize {
+fn lay_list(
+    is_grid: bool,
+    marks: &[u32],
+    n: usize,
+    v: usize,
+    places: &mut [u32],
+    from: usize,
+) -> usize {
     let mut at = from;
     let mut u = 0;
     while u < n {
-        if is_marked(marks, v, u) {
+        if is_joined(is_grid, marks, v, u) {
             at = push(places, at, u);
         }
         u += 1;
@@ -84,13 +100,19 @@ fn lay_list(marks: &[u32], n: usize, v: usize, places: &mut [u32], from: usize) 
     at
 }
 
-// Start positions and lists of the marked joins; how many neighbour places there are.
-pub fn lay(marks: &[u32], n: usize, starts: &mut [u32], places: &mut [u32]) -> usize {
+// Start positions and lists of a block; how many neighbour places there are.
+pub fn lay(
+    is_grid: bool,
+    marks: &[u32],
+    n: usize,
+    starts: &mut [u32],
+    places: &mut [u32],
+) -> usize {
     let mut at = 0;
     let mut v = 0;
     while v < n {
         push(starts, v, at);
-        at = lay_list(marks, n, v, places, at);
+        at = lay_list(is_grid, marks, n, v, places, at);
         v += 1;
     }
     push(starts, n, at);

@@ -1,11 +1,10 @@
 // One large block, the 64 x 64 grid, W = 256. In a random order its rows have room; the order by degree, where nearly all
 // degrees are equal, runs along the grid's lines, and is refused for want of room.
-use crate::compare::is_equal;
+use crate::compare::compare_row;
 use crate::draw::below;
+use crate::draw::lay;
 use crate::draw::roll;
 use crate::order::fill_order;
-use crate::room::get;
-use crate::room::push;
 use crate::say;
 use crate::search::search_from;
 use crate::tally::Tally;
@@ -13,7 +12,6 @@ use build::Built;
 use build::build;
 use refusal::Refusal;
 use rows::entry::Entry;
-use rows::pair::pair;
 
 // Frames of the grid, and most entries of a row.
 const FRAMES: usize = 4096;
@@ -23,51 +21,22 @@ const WIDTH: usize = 256;
 // Frames from which every pair is compared.
 const SOURCES: usize = 64;
 
-// Stores a neighbour, if there is one on that side; the place behind it.
-fn join(places: &mut [u32], at: usize, is_there: bool, frame: usize) -> usize {
-    if is_there {
-        return push(places, at, frame % FRAMES);
+fn is_one_apart(a: usize, b: usize) -> bool {
+    if a < b {
+        return b - a == 1;
     }
-    at
+    a - b == 1
 }
 
-// The list of frame v: its neighbours one line up, to the left, to the right and one line down. The place behind it.
-fn lay_frame(places: &mut [u32], from: usize, v: usize) -> usize {
-    if FRAMES <= v {
-        return from;
+// Whether two frames lie side by side, in a column or in a line.
+pub fn is_beside(s: usize, t: usize) -> bool {
+    if s % 64 == t % 64 {
+        return is_one_apart(s / 64, t / 64);
     }
-    let column = v % 64;
-    let one = join(places, from, 64 <= v, v + 4032);
-    let two = join(places, one, 0 < column, v + 4095);
-    let three = join(places, two, column < 63, v + 1);
-    join(places, three, v < 4032, v + 64)
-}
-
-// Start positions and lists of the grid.
-fn lay_grid(starts: &mut [u32], places: &mut [u32]) {
-    let mut at = 0;
-    let mut v = 0;
-    while v < FRAMES {
-        push(starts, v, at);
-        at = lay_frame(places, at, v);
-        v += 1;
+    if s / 64 == t / 64 {
+        return is_one_apart(s % 64, t % 64);
     }
-    push(starts, FRAMES, at);
-}
-
-// Whether every answer for s is the count of the search from s; the first that is not is printed.
-fn compare_source(labels: &[Entry], counts: &[u32], s: usize, joins: &[u32]) -> bool {
-    let mut t = 0;
-    while t < FRAMES {
-        let said = pair(FRAMES, WIDTH, labels, counts, s, t);
-        let count = get(joins, t);
-        if !is_equal(said, count) {
-            say::difference(FRAMES, FRAMES, s, t, said, count);
-            return false;
-        }
-        t += 1;
-    }
-    true
+    false
 }
 
 // Searches from some frames of the grid, and compares.
@@ -86,7 +55,7 @@ fn compare_sources(
         seed = roll(seed);
         let s = below(seed, FRAMES);
         search_from(FRAMES, starts, places, s, met, queue);
-        if !compare_source(labels, counts, s, met) {
+        if !compare_row(FRAMES, WIDTH, FRAMES, labels, counts, s, met) {
             return tally.unequal();
         }
         tally = tally.compared(FRAMES);
@@ -157,21 +126,6 @@ fn try_grid(
 }
 
 fn run(
-    starts: &mut [u32],
-    places: &mut [u32],
-    order: &mut [u32],
-    labels: &mut [Entry],
-    counts: &mut [u32],
-    met: &mut [u32],
-    queue: &mut [u32],
-) {
-    lay_grid(starts, places);
-    try_grid(true, starts, places, order, labels, counts, met, queue);
-    try_grid(false, starts, places, order, labels, counts, met, queue);
-}
-
-// Lends the label room on.
-fn relay(
     labels: &mut [Entry; 1048576],
     starts: &mut [u32],
     places: &mut [u32],
@@ -180,7 +134,9 @@ fn relay(
     met: &mut [u32],
     queue: &mut [u32],
 ) {
-    run(starts, places, order, labels, counts, met, queue);
+    lay(true, &[], FRAMES, starts, places);
+    try_grid(true, starts, places, order, labels, counts, met, queue);
+    try_grid(false, starts, places, order, labels, counts, met, queue);
 }
 
 pub fn grid() {
@@ -191,7 +147,7 @@ pub fn grid() {
     let mut counts = [0u32; 4096];
     let mut met = [0u32; 4096];
     let mut queue = [0u32; 4096];
-    relay(
+    run(
         &mut labels,
         &mut starts,
         &mut places,

@@ -65,5 +65,5 @@ pub fn make_block(
     places: &mut [u32],
 ) -> usize {
     draw_kind(marks, n, kind, seed);
-    lay(marks, n, starts, places)
+    lay(false, marks, n, starts, places)
 }

@@ -1,5 +1,6 @@
 // Random blocks: sparse, dense, paths and blocks of many pieces, each in a random order and in the order by degree, at a
 // spread of stops, in rows as wide as the block and now and then in narrower ones.
+ghost use Prim.Native.Nat.{_≤_};
 use crate::compare::try_stop;
 use crate::draw::SIDE;
 use crate::draw::below;
@@ -25,43 +26,27 @@ const BLOCKS: usize = 300;
 // Each block is tried in both orders, in turn 2 * block and in the next: turns 2 to 601.
 const TURNS: usize = 602;
 
-// One stop of one block: a build held against the sums of the hubs so far, then the hub of rank k taken into the sums. The
-// work rooms are lent to the build as the search left them.
-fn try_hub(
+// Takes the hub of rank k, if there is one, into the sums.
+fn take_hub(
     n: usize,
-    w: usize,
     k: usize,
     starts: &[u32],
     places: &[u32],
     order: &[u32],
-    labels: &mut [Entry],
-    counts: &mut [u32],
     met: &mut [u32],
     queue: &mut [u32],
     sums: &mut [u32],
-    before: Tally,
-) -> Tally {
-    let tally = try_stop(
-        n,
-        w,
-        k,
-        starts,
-        places,
-        order,
-        labels,
-        counts,
-        met,
-        queue,
-        sums,
-        before,
-    );
+) {
+    if n <= k {
+        return;
+    }
     let hub = get(order, k) as usize;
     search_from(n, starts, places, hub, met, queue);
     lower_sums(n, met, sums);
-    tally
 }
 
-// One block in one order, from no hub to all of them.
+// One block in one order, from no hub to all of them: each build is held against the sums of the hubs so far. The work
+// rooms are lent to the build as the search left them.
 fn try_order(
     n: usize,
     w: usize,
@@ -74,12 +59,14 @@ fn try_order(
     queue: &mut [u32],
     sums: &mut [u32],
     before: Tally,
-) -> Tally {
+) -> Tally
+    requires { ⌜ n ≤ 200 ⌝ }
+{
     fill(sums, NONE);
     let mut tally = before;
     let mut k = 0;
-    while k < n {
-        tally = try_hub(
+    while k <= n {
+        tally = try_stop(
             n,
             w,
             k,
@@ -93,22 +80,10 @@ fn try_order(
             sums,
             tally,
         );
+        take_hub(n, k, starts, places, order, met, queue, sums);
         k += 1;
     }
-    try_stop(
-        n,
-        w,
-        n,
-        starts,
-        places,
-        order,
-        labels,
-        counts,
-        met,
-        queue,
-        sums,
-        tally,
-    )
+    tally
 }
 
 // Fills the order of a block: at random or by degree.

@@ -35,6 +35,14 @@ pub fn front(room: &mut [u32], n: usize) -> &mut [u32] {
     &mut room[..n]
 }
 
+// The places of a room from one on, all of them where that lies past the end.
+pub fn behind(room: &[u32], from: usize) -> &[u32] {
+    if room.len() < from {
+        return room;
+    }
+    &room[from..]
+}
+
 // Every place of a room set to one value.
 pub fn fill(room: &mut [u32], value: u32) {
     let mut at = 0;

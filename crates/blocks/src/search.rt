@@ -1,5 +1,6 @@
 // Plain breadth-first counts, and for each pair the least sum over the hubs searched so far.
 use crate::draw::SIDE;
+use crate::room::behind;
 use crate::room::fill;
 use crate::room::get;
 use crate::room::push;
@@ -89,13 +90,7 @@ fn lower_row(n: usize, s: usize, joins: &[u32], sums: &mut [u32]) {
     }
 }
 
-// The least sum for a pair of frames, NONE where no hub searched so far reaches both.
-pub fn sum_of(sums: &[u32], s: usize, t: usize) -> u32 {
-    if SIDE <= s {
-        return NONE;
-    }
-    if SIDE <= t {
-        return NONE;
-    }
-    get(sums, s * SIDE + t)
+// The least sums of frame s with each frame, NONE where no hub searched so far reaches both.
+pub fn sums_of(sums: &[u32], s: usize) -> &[u32] {
+    behind(sums, s % SIDE * SIDE)
 }

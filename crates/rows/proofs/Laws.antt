@@ -140,6 +140,12 @@ pub getD-part : (w : ℕ) (labels : List ℕ) (v count i : ℕ) → i < count �
 unfolding part
 getD-part w labels v count i h = getD-take count (drop (v * w) labels) i 0 h ∙ getD-drop (v * w) labels i 0
 
+-- entry j of a row in the room
+pub entry-at : (w : ℕ) (labels counts : List ℕ) (v j : ℕ) → j < getD counts v 0
+    → getD (rowAt w labels counts v) j 0 ≡ getD labels (v * w + j) 0
+unfolding rowAt
+entry-at w labels counts v j h = getD-part w labels v (getD counts v 0) j h
+
 pub length-part : {n : ℕ} (w : ℕ) (labels : List ℕ) (v count : ℕ) → v < n → count ≤ w → length labels ≡ n * w
     → length (part w labels v count) ≡ count
 unfolding part

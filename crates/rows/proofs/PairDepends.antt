@@ -13,7 +13,7 @@ use Rattle.basics.proofs.Laws.{lt-or-ge, not-both}
 use Rattle.refusal.specs.Tests.{test, _then_}
 use Rattle.refusal.specs.declared.Verdict.{Verdict}
 use Rattle.refusal.specs.declared.Verdict.the-variants.{Fine, Refused}
-use Rattle.refusal.proofs.Laws.{vcase}
+use Rattle.refusal.proofs.Laws.{vcase, Numbered, test-numbered, then-numbered}
 use Rattle.rows.specs.Rooms.{roomTests, roomsFit, sizesFit, frameTest, rowTest, part, rowAt, soundRow, faultyEntry}
 use Rattle.rows.specs.Meetings.{meetingOf}
 use Rattle.rows.specs.Pair.{pairTests, pairOf, answered, told, Told}
@@ -109,26 +109,11 @@ told-apart (answers.Refused r) answers.None p q e = absurd (omega (arith, ap (λ
 told-apart (answers.Refused r) (answers.Refused s) p q e =
     λ i. answers.Refused record { number = e i .number; place = e i .place }
 
--- the same of a verdict
-unfoldable pub NamedVerdict : Verdict → Type 0
-NamedVerdict Fine = Unit {0}
-NamedVerdict (Refused r) = 1 ≤ r .number
-
-pub named-test : (b : Bool) (number place : ℕ) → 1 ≤ number → NamedVerdict (test b number place)
-unfolding NamedVerdict test
-named-test true number place h = tt
-named-test false number place h = h
-
-pub named-then : (v next : Verdict) → NamedVerdict v → NamedVerdict next → NamedVerdict (v then next)
-unfolding NamedVerdict _then_
-named-then Fine next p q = q
-named-then (Refused r) next p q = p
-
-named-answered : (v : Verdict) (best : Best) → NamedVerdict v → Named (answered v best)
-unfolding NamedVerdict Named answered
+named-answered : (v : Verdict) (best : Best) → Numbered v → Named (answered v best)
+unfolding Named answered
 named-answered Fine Nowhere p = tt
 named-answered Fine (Meet m) p = tt
-named-answered (Refused r) best p = p
+named-answered (Refused r) best p = p r refl
 
 -- every answer of the pair question is so named
 pub pair-named : (n w : ℕ) (labels counts : List ℕ) (s t : ℕ) → Named (pairOf n w labels counts s t)
@@ -139,8 +124,8 @@ pair-named n w labels counts s t =
     let eight : 1 ≤ 8 = omega arith in
     let nine : 1 ≤ 9 = omega arith in
     named-answered (pairTests n w labels counts s t) _
-    (named-then (roomTests n w labels counts) _
-    (named-then (test (sizesFit n w) 1 0) _ (named-test _ 1 0 one) (named-test _ 2 0 two))
-    (named-then (frameTest n s 0) _ (named-test _ 8 0 eight)
-    (named-then (frameTest n t 1) _ (named-test _ 8 1 eight)
-    (named-then (rowTest n n w labels counts s) _ (named-test _ 9 s nine) (named-test _ 9 t nine)))))
+    (then-numbered (roomTests n w labels counts) _
+    (then-numbered (test (sizesFit n w) 1 0) _ (test-numbered _ 1 0 one) (test-numbered _ 2 0 two))
+    (then-numbered (frameTest n s 0) _ (test-numbered _ 8 0 eight)
+    (then-numbered (frameTest n t 1) _ (test-numbered _ 8 1 eight)
+    (then-numbered (rowTest n n w labels counts s) _ (test-numbered _ 9 s nine) (test-numbered _ 9 t nine)))))

@@ -14,13 +14,13 @@ use Rattle.refusal.specs.Tests.{test}
 use Rattle.refusal.specs.declared.Refusal.{Refusal}
 use Rattle.refusal.specs.declared.Verdict.{Verdict}
 use Rattle.refusal.specs.declared.Verdict.the-variants as verdicts
+use Rattle.refusal.proofs.Laws.{Numbered, test-numbered, then-numbered}
 use Rattle.rows.specs.Entry.{rankOf, joinsOf}
 use Rattle.rows.specs.Meetings.{Rises}
 use Rattle.rows.specs.Rooms.{Rooms, part, rowAt, soundRow, checkRows, roomTests, rowsTest, sizesFit}
 use Rattle.rows.specs.Spread.{farthestIn, frontJoins, farthest, spreadBy, spreadOf, spreadTold, SpreadTold}
 use Rattle.rows.specs.declared.spread.SpreadAnswer.{SpreadAnswer}
 use Rattle.rows.specs.declared.spread.SpreadAnswer.the-variants.{Spread, Refused}
-use Rattle.rows.proofs.PairDepends.{NamedVerdict, named-test, named-then}
 use Rattle.rows.proofs.Laws.{joins-small}
 use Rattle.rows.proofs.PairLaws.{row-in}
 
@@ -109,10 +109,10 @@ spread-told-apart (Spread d) (Refused r) p q e = absurd (omega (arith, ap (λ (x
 spread-told-apart (Refused r) (Spread k) p q e = absurd (omega (arith, ap (λ (x : SpreadTold). x .number) e))
 spread-told-apart (Refused r) (Refused s) p q e = λ i. Refused record { number = e i .number; place = e i .place }
 
-named-by : (v : Verdict) (d : ℕ) → NamedVerdict v → SpreadNamed (spreadBy v d)
-unfolding NamedVerdict SpreadNamed spreadBy
+named-by : (v : Verdict) (d : ℕ) → Numbered v → SpreadNamed (spreadBy v d)
+unfolding SpreadNamed spreadBy
 named-by verdicts.Fine d p = tt
-named-by (verdicts.Refused r) d p = p
+named-by (verdicts.Refused r) d p = p r refl
 
 -- every answer of the spread question is so named
 pub spread-named : (n w : ℕ) (labels counts : List ℕ) → SpreadNamed (spreadOf n w labels counts)
@@ -122,6 +122,6 @@ spread-named n w labels counts =
     let two : 1 ≤ 2 = omega arith in
     let nine : 1 ≤ 9 = omega arith in
     named-by (checkRows n n w labels counts) (farthest w labels counts n)
-    (named-then (roomTests n w labels counts) _
-    (named-then (test (sizesFit n w) 1 0) _ (named-test _ 1 0 one) (named-test _ 2 0 two))
-    (named-test _ 9 _ nine))
+    (then-numbered (roomTests n w labels counts) _
+    (then-numbered (test (sizesFit n w) 1 0) _ (test-numbered _ 1 0 one) (test-numbered _ 2 0 two))
+    (test-numbered _ 9 _ nine))

@@ -10,6 +10,7 @@ use Rattle.basics.proofs.Laws.{lt-or-ge}
 use Rattle.rows.specs.Entry.{decode}
 use Rattle.rows.specs.Pair.{pairOf}
 use Rattle.rows.specs.Rooms.{Rooms}
+use Rattle.rows.proofs.Laws.{entry-at}
 use Rattle.rows.proofs.PairDepends.{SameRow, pair-depends}
 use Rattle.build.specs.Build.{outcome, buildOf}
 use Rattle.build.specs.declared.Built.the-variants.{Entries}
@@ -23,7 +24,6 @@ use Rattle.theorems.specs.EndToEnd.{EndToEnd, fileSize}
 use Rattle.theorems.proofs.Built.{Made, built-tests, built-held}
 use Rattle.theorems.proofs.Demand.{held-demands}
 use Rattle.theorems.proofs.Held.{Held, held-rows}
-use Rattle.theorems.proofs.NoSpare.{entry-at}
 use Rattle.theorems.proofs.Trips.{write-taken, write-then-read}
 
 -- a built index passes the writer's tests

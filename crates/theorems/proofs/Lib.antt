@@ -12,6 +12,7 @@ pub mod SameC
 pub mod SameFile
 pub mod SameLinks
 pub mod SameListing
+pub mod SameRefusal
 pub mod SameRows
 pub mod Starred
 pub mod Trips

@@ -21,18 +21,12 @@ use Rattle.theory.proofs.Plain.{plain-spare}
 use Rattle.rows.specs.Entry.{rankOf, joinsOf, decode}
 use Rattle.rows.specs.Pair.{pairTests}
 use Rattle.rows.specs.Rooms.{Rooms, rowAt, soundRow}
-use Rattle.rows.proofs.Laws.{Sound, sound-row, row-inside, getD-part, decode-append}
+use Rattle.rows.proofs.Laws.{Sound, sound-row, row-inside, entry-at, decode-append}
 use Rattle.rows.proofs.RoomLaws.{length-row}
 use Rattle.rows.proofs.PairLaws.{asked-fine}
 use Rattle.rows.proofs.PairAnswer.{pair-answer}
 use Rattle.theorems.specs.Demands.{askedOf, labelsWithout, countsWithout, hubAt}
 use Rattle.theorems.proofs.Held.{Held, held-length, held-sound, held-answer}
-
--- entry j of a row in the room
-pub entry-at : (w : ℕ) (labels counts : List ℕ) (v j : ℕ) → j < getD counts v 0
-    → getD (rowAt w labels counts v) j 0 ≡ getD labels (v * w + j) 0
-unfolding rowAt
-entry-at w labels counts v j h = getD-part w labels v (getD counts v 0) j h
 
 module _ {n w k : ℕ} {S L O labels counts : List ℕ} (h : Held n w k S L O labels counts)
     (v i : ℕ) (p : v < n) (l : i < getD counts v 0) where

@@ -16,6 +16,9 @@ built-requires c κs = search needs
 loop-holds : tie.Need-loop-holds Inv-loop μ-loop
 loop-holds c = search needs
 
+sums-of-requires : tie.Need-sums-of-requires Inv-loop μ-loop
+sums-of-requires c κs = search needs
+
 compare-row-requires : tie.Need-compare-row-requires Inv-loop μ-loop
 compare-row-requires c κs = search needs
 
@@ -48,6 +51,7 @@ compare-spec =
     μ-loop
     built-requires
     loop-holds
+    sums-of-requires
     compare-row-requires
     unequal-requires
     returns

@@ -5,10 +5,10 @@ use Rattle.blocks.proofs.compare.compare_row.Statement.{statement}
 use Rattle.blocks.proofs.compare.compare_row.Tie as tie
 
 abbrev Inv-loop : tie.InvT-loop
-Inv-loop n w k labels counts sums s t₀ t = Unit {0}
+Inv-loop n w k labels counts s joins t₀ t = Unit {0}
 
 abbrev μ-loop : tie.MeasureT-loop
-μ-loop n w k labels counts sums s t₀ t = n - t
+μ-loop n w k labels counts s joins t₀ t = n - t
 
 loop-holds : tie.Need-loop-holds Inv-loop μ-loop
 loop-holds c = search needs
@@ -16,8 +16,8 @@ loop-holds c = search needs
 pair-requires : tie.Need-pair-requires Inv-loop μ-loop
 pair-requires c κs = search needs
 
-sum-of-requires : tie.Need-sum-of-requires Inv-loop μ-loop
-sum-of-requires c κs = search needs
+get-requires : tie.Need-get-requires Inv-loop μ-loop
+get-requires c κs = search needs
 
 is-equal-requires : tie.Need-is-equal-requires Inv-loop μ-loop
 is-equal-requires c κs = search needs
@@ -48,7 +48,7 @@ compare-row-spec =
     μ-loop
     loop-holds
     pair-requires
-    sum-of-requires
+    get-requires
     is-equal-requires
     difference-requires
     returns

@@ -7,11 +7,11 @@ use Rattle.blocks.proofs.draw.lay.Statement.{statement}
 use Rattle.blocks.proofs.draw.lay.Tie as tie
 
 abbrev Inv-loop : tie.InvT-loop
-Inv-loop marks n starts₀ places₀ at₀ v₀ starts places at v =
+Inv-loop is-grid marks n starts₀ places₀ at₀ v₀ starts places at v =
     (length starts ≡ length starts₀) × (length places ≡ length places₀)
 
 abbrev μ-loop : tie.MeasureT-loop
-μ-loop marks n starts₀ places₀ at₀ v₀ starts places at v = n - v
+μ-loop is-grid marks n starts₀ places₀ at₀ v₀ starts places at v = n - v
 
 loop-holds : tie.Need-loop-holds Inv-loop μ-loop
 loop-holds c = search needs

@@ -8,16 +8,16 @@ use Rattle.blocks.proofs.draw.lay_list.Statement.{statement}
 use Rattle.blocks.proofs.draw.lay_list.Tie as tie
 
 abbrev Inv-loop : tie.InvT-loop
-Inv-loop marks n v places₀ from at₀ u₀ places at u = length places ≡ length places₀
+Inv-loop is-grid marks n v places₀ from at₀ u₀ places at u = length places ≡ length places₀
 
 abbrev μ-loop : tie.MeasureT-loop
-μ-loop marks n v places₀ from at₀ u₀ places at u = n - u
+μ-loop is-grid marks n v places₀ from at₀ u₀ places at u = n - u
 
 loop-holds : tie.Need-loop-holds Inv-loop μ-loop
 loop-holds c = search needs
 
-is-marked-requires : tie.Need-is-marked-requires Inv-loop μ-loop
-is-marked-requires c κs = search needs
+is-joined-requires : tie.Need-is-joined-requires Inv-loop μ-loop
+is-joined-requires c κs = search needs
 
 push-requires : tie.Need-push-requires Inv-loop μ-loop
 push-requires c κs = search needs
@@ -44,7 +44,7 @@ lay-list-spec =
     Inv-loop
     μ-loop
     loop-holds
-    is-marked-requires
+    is-joined-requires
     push-requires
     add-u
     loop-less

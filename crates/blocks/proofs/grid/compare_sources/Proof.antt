@@ -27,8 +27,8 @@ below-requires c κs = search needs
 search-from-requires : tie.Need-search-from-requires Inv-loop μ-loop
 search-from-requires c κs = search needs
 
-compare-source-requires : tie.Need-compare-source-requires Inv-loop μ-loop
-compare-source-requires c κs = search needs
+compare-row-requires : tie.Need-compare-row-requires Inv-loop μ-loop
+compare-row-requires c κs = search needs
 
 unequal-requires : tie.Need-unequal-requires Inv-loop μ-loop
 unequal-requires c κs = search needs
@@ -74,7 +74,7 @@ compare-sources-spec =
     roll-requires
     below-requires
     search-from-requires
-    compare-source-requires
+    compare-row-requires
     unequal-requires
     same-length
     same-length-2

@@ -1,5 +1,5 @@
--- Invariant: the rooms keep their lengths; n is named so that k + 1 is seen to fit. Each turn is one rank on, up to n.
-use Prim.Native.Nat.{_-_, _<_}
+-- Invariant: the rooms keep their lengths, and n is at most 200, so that k + 1 fits. Each turn is one rank on, up to n.
+use Prim.Native.Nat.{suc, _-_, _≤_}
 use mathlib.Core.Path.{_≡_}
 use borrow.Author.Needs.{needs}
 use lib.ListN.{length}
@@ -9,13 +9,13 @@ use Rattle.blocks.proofs.random.try_order.Tie as tie
 abbrev Inv-loop : tie.InvT-loop
 Inv-loop n w starts places order labels₀ counts₀ met₀ queue₀ sums₀ tally₀ k₀
     labels counts met queue sums tally k =
-    (n < 18446744073709551616) × (length labels ≡ length labels₀) × (length counts ≡ length counts₀) ×
+    (n ≤ 200) × (length labels ≡ length labels₀) × (length counts ≡ length counts₀) ×
     (length met ≡ length met₀) × (length queue ≡ length queue₀) × (length sums ≡ length sums₀)
 
 abbrev μ-loop : tie.MeasureT-loop
 μ-loop n w starts places order labels₀ counts₀ met₀ queue₀ sums₀ tally₀ k₀
     labels counts met queue sums tally k =
-    n - k
+    suc n - k
 
 fill-requires : tie.Need-fill-requires Inv-loop μ-loop
 fill-requires c κs = search needs
@@ -23,8 +23,11 @@ fill-requires c κs = search needs
 loop-holds : tie.Need-loop-holds Inv-loop μ-loop
 loop-holds c = search needs
 
-try-hub-requires : tie.Need-try-hub-requires Inv-loop μ-loop
-try-hub-requires c κs = search needs
+try-stop-requires : tie.Need-try-stop-requires Inv-loop μ-loop
+try-stop-requires c κs = search needs
+
+take-hub-requires : tie.Need-take-hub-requires Inv-loop μ-loop
+take-hub-requires c κs = search needs
 
 add-k : tie.Need-add-k Inv-loop μ-loop
 add-k c = search needs
@@ -34,9 +37,6 @@ loop-less c = search needs
 
 loop-again : tie.Need-loop-again Inv-loop μ-loop
 loop-again c = search needs
-
-try-stop-requires : tie.Need-try-stop-requires Inv-loop μ-loop
-try-stop-requires c κs = search needs
 
 same-length : tie.Need-same-length Inv-loop μ-loop
 same-length c = search needs
@@ -64,11 +64,11 @@ try-order-spec =
     μ-loop
     fill-requires
     loop-holds
-    try-hub-requires
+    try-stop-requires
+    take-hub-requires
     add-k
     loop-less
     loop-again
-    try-stop-requires
     same-length
     same-length-2
     same-length-3
