@@ -9,6 +9,7 @@ use lib.Dec.{leb}
 use Rattle.basics.proofs.Laws.{least-most}
 use Rattle.theory.specs.Distance.{far}
 use Rattle.theory.specs.Rows.{answer}
+use Rattle.theory.proofs.Plain.{far-room}
 use Rattle.rows.specs.Entry.{rankOf, decode}
 use Rattle.rows.specs.Rooms.{rowAt}
 use Rattle.build.specs.Walk.{soFar, levelOf, metRoom}
@@ -17,11 +18,6 @@ use Rattle.build.proofs.BfsEnd.{bfs-room}
 use Rattle.build.proofs.DropNotes.{note-long, note-forget, notes-at}
 use Rattle.build.proofs.DropWithin.{Notes, within-answer}
 use Rattle.build.proofs.DropRow.{row-long, row-low, row-noted}
-
--- infinity is above every frame number
-above : (n : ℕ) → n < far 1 n
-unfolding far
-above n = omega arith
 
 capped : (n w : ℕ) (labels counts : List ℕ) (hub u : ℕ) → soFar n w labels counts hub u ≤ far 1 n
 unfolding soFar answer
@@ -98,5 +94,5 @@ module _ {n w : ℕ} {S L labels counts : List ℕ} {hub : ℕ} {met queue noted
           → M ≡ metRoom n w S L labels counts hub
       unfolding metRoom levelOf
       room-is b =
-          bfs-room (e .block) (e .hub-in) b (far 1 n) (above n) (soFar n w labels counts hub)
+          bfs-room (e .block) (e .hub-in) b (far 1 n) (far-room n) (soFar n w labels counts hub)
           (capped n w labels counts hub) test-is

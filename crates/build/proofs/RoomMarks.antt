@@ -2,16 +2,17 @@
 -- rows after the walk.
 use Prim.Native.Nat.{ℕ, _+_, _-_, _*_, _≤_, _<_}
 use mathlib.Core.Path.{_≡_, refl, sym, ap, _∙_}
-use mathlib.Core.Bool.{Bool, true, false, cond, _&&_}
+use mathlib.Core.Bool.{Bool, true, false, cond, _&&_, and-false}
 use mathlib.Core.List.{List, [], _∷_, _++_}
 use native.Mathlib.Decide.{ℕ-discrete}
 use native.Mathlib.Omega.{arith}
 use borrow.Author.Tests.{lt-ltb, le-ltb, ltb-true, leb-false, eq-eqb, ne-eqb, eqb-true}
 use lib.ListN.{length, getD, set}
 use lib.Dec.{leb, ltb, eqb}
-use Rattle.basics.specs.Places.{some}
-use Rattle.basics.proofs.Laws.{bcase, by-cases, lt-or-ge, not-both, both, both-true, of-not-true, not-of-true, not-of-false, same-truth, cond-true, cond-false, some-one, some-found, some-not, some-none, some-end}
+use Rattle.basics.specs.Places.{some, stands}
+use Rattle.basics.proofs.Laws.{bcase, by-cases, lt-or-ge, not-both, both, both-true, of-not-true, not-of-true, not-of-false, same-truth, cond-true, cond-false, some-one, some-found, some-not, some-none, stands-at, stands-by}
 use Rattle.theory.specs.Rows.{Row}
+use Rattle.links.proofs.Order.{stands-none, stands-other}
 use Rattle.rows.specs.Entry.{entryOf}
 use Rattle.build.specs.Build.{labelsOf, countsOf}
 use Rattle.build.specs.Explore.{Queued}
@@ -29,13 +30,9 @@ pub unmet-mark : (m : ℕ) → m ≤ 0 → isKept m ≡ false
 unfolding isKept
 unmet-mark m h = ap (λ (b : Bool). b && ltb m 65536) (le-ltb 0 m h)
 
-and-no : (a : Bool) → a && false ≡ false
-and-no true = refl
-and-no false = refl
-
 pub dropped-mark : (m : ℕ) → 65536 ≤ m → isKept m ≡ false
 unfolding isKept
-dropped-mark m h = ap (λ (b : Bool). ltb 0 m && b) (le-ltb m 65536 h) ∙ and-no (ltb 0 m)
+dropped-mark m h = ap (λ (b : Bool). ltb 0 m && b) (le-ltb m 65536 h) ∙ and-false (ltb 0 m)
 
 pub kept-met : (m : ℕ) → isKept m ≡ true → 0 < m
 unfolding isKept
@@ -88,7 +85,7 @@ fits-each w counts met v e h =
 
 -- frame v stands at one of the first i places of the queue
 abbrev stood : List ℕ → ℕ → ℕ → Bool
-stood queue i v = some (λ j. eqb (getD queue j 0) v) 0 i
+stood queue i v = stands (λ j. getD queue j 0) i v
 
 -- the rows when the first i frames of the queue have theirs from R′ and the others still from R
 unfoldable pub partly : List ℕ → ℕ → (ℕ → Row) → (ℕ → Row) → ℕ → Row
@@ -101,43 +98,31 @@ upto w rank labels counts met queue i = partly queue i (rowsIn w labels counts) 
 module _ (queue : List ℕ) (R R′ : ℕ → Row) where
   pub partly-none : (v : ℕ) → partly queue 0 R R′ v ≡ R v
   unfolding partly
-  partly-none v = cond-false _ _ (some-end (λ j. eqb (getD queue j 0) v) 0)
-
-  stood-other : (i u : ℕ) → (getD queue i 0 ≡ u → ⊥) → stood queue (i + 1) u ≡ stood queue i u
-  stood-other i u ne =
-      same-truth (stood queue (i + 1) u) (stood queue i u)
-      (λ e.
-      let (j, l, h, is) = some-found (λ k. eqb (getD queue k 0) u) 0 (i + 1) e in
-      by-cases (ℕ-discrete j i)
-      (λ (s : j ≡ i). absurd (ne (ap (λ (k : ℕ). getD queue k 0) (sym s) ∙ eqb-true _ _ is)))
-      (λ s. some-one (λ k. eqb (getD queue k 0) u) 0 i j l (omega arith) is))
-      (λ e.
-      let (j, l, h, is) = some-found (λ k. eqb (getD queue k 0) u) 0 i e in
-      some-one (λ k. eqb (getD queue k 0) u) 0 (i + 1) j l (omega arith) is)
+  partly-none v = cond-false _ _ (stands-none (λ j. getD queue j 0) v)
 
   pub partly-other : (i u : ℕ) → (getD queue i 0 ≡ u → ⊥) → partly queue (i + 1) R R′ u ≡ partly queue i R R′ u
   unfolding partly
-  partly-other i u ne = ap (λ (b : Bool). cond b (R′ u) (R u)) (stood-other i u ne)
+  partly-other i u ne =
+      ap (λ (b : Bool). cond b (R′ u) (R u)) (stands-other (λ j. getD queue j 0) i u (λ e. ne (sym e)))
 
   pub partly-after : (i : ℕ) → partly queue (i + 1) R R′ (getD queue i 0) ≡ R′ (getD queue i 0)
   unfolding partly
-  partly-after i =
-      cond-true _ _
-      (some-one (λ k. eqb (getD queue k 0) (getD queue i 0)) 0 (i + 1) i (omega arith) (omega arith)
-      (eq-eqb (getD queue i 0) (getD queue i 0) refl))
+  partly-after i = cond-true _ _ (stands-at (λ j. getD queue j 0) (i + 1) i (omega arith))
 
   pub partly-before : (i : ℕ) → ((j : ℕ) → j < i → getD queue j 0 ≡ getD queue i 0 → ⊥)
       → partly queue i R R′ (getD queue i 0) ≡ R (getD queue i 0)
   unfolding partly
   partly-before i once =
-      cond-false _ _
-      (some-none (λ k. eqb (getD queue k 0) (getD queue i 0)) 0 i
-      (λ j l h. ne-eqb (getD queue j 0) (getD queue i 0) (once j (omega arith))))
+      bcase (stood queue i (getD queue i 0))
+      (λ e.
+      let (j, h, same) = stands-by (λ j. getD queue j 0) i (getD queue i 0) e in
+      absurd (once j h same))
+      (cond-false _ _)
 
   pub partly-all : (tail v : ℕ) → ((i : ℕ) × (i < tail) × (getD queue i 0 ≡ v)) → partly queue tail R R′ v ≡ R′ v
   unfolding partly
   partly-all tail v at =
-      cond-true _ _ (some-one (λ k. eqb (getD queue k 0) v) 0 tail (at .0) (omega arith) (omega arith) (eq-eqb _ _ (at .2)))
+      cond-true _ _ (ap (stands (λ j. getD queue j 0) tail) (sym (at .2)) ∙ stands-at (λ j. getD queue j 0) tail (at .0) (at .1))
 
   pub partly-same : (tail v : ℕ) → R′ v ≡ R v → partly queue tail R R′ v ≡ R′ v
   unfolding partly
@@ -277,7 +262,7 @@ module _ {w : ℕ} {labels counts met queue : List ℕ} {tail : ℕ} (s : Settle
       (λ plain.
       let near : ltb 4096 (getD met v 0) ≡ false =
       le-ltb 4096 (getD met v 0) (omega (arith, s .low .mark v (omega arith) plain)) in
-      rw near (and-no (isKept (getD met v 0))))
+      rw near (and-false (isKept (getD met v 0))))
       (λ drop. rw (dropped-mark (getD met v 0) drop) refl)))
 
   pub settle-made : fitsAll w counts met ≡ true → tail ≤ 4096 → settleOf w counts met ≡ Made
