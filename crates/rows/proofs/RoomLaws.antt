@@ -7,14 +7,14 @@ use native.Mathlib.Omega.{arith}
 use borrow.Author.Tests.{leb-true, le-leb, lt-leb, eqb-true, eq-eqb, ne-eqb, ltb-true, lt-ltb, le-ltb}
 use lib.ListN.{length, getD}
 use lib.Dec.{leb, ltb, eqb}
-use Rattle.basics.specs.Places.{first, some}
+use Rattle.basics.specs.Places.{sum, first, some}
 use Rattle.basics.proofs.Laws.{bcase, both-true, both, of-not-false, not-of-true, not-of-false, first-before, first-is, first-none}
 use Rattle.refusal.specs.Tests.{test, _then_, refusal}
 use Rattle.refusal.specs.declared.Refusal.{Refusal}
 use Rattle.refusal.specs.declared.Verdict.{Verdict}
 use Rattle.refusal.specs.declared.Verdict.the-variants.{Fine, Refused}
 use Rattle.refusal.proofs.Laws.{test-fine, test-refused, test-held, then-fine, after-fine, after-refused}
-use Rattle.rows.specs.Rooms.{Rooms, sizesFit, roomsFit, roomTests, rowsTest, checkRows, part, partOf, rowAt, soundRow, faultyEntry}
+use Rattle.rows.specs.Rooms.{totalOf, Rooms, sizesFit, roomsFit, roomTests, rowsTest, checkRows, part, partOf, rowAt, soundRow, faultyEntry}
 use Rattle.rows.proofs.Laws.{part-in-room, length-part}
 
 pub sizes-fit : {n w : ℕ} → 1 ≤ n → n ≤ 4096 → 1 ≤ w → w ≤ 256 → sizesFit n w ≡ true
@@ -165,3 +165,12 @@ unsound-row bound {n} {w} {labels} {counts} r v h sound e =
     let lowest : first unsound 0 n ≡ v =
     first-is unsound 0 n v (omega arith) (omega arith) (not-of-false e) (λ u p q. not-of-true (sound u q)) in
     rows-alone bound n w labels counts r ∙ rows-refused bound n w labels counts (sym lowest) (omega arith)
+
+-- the sum of a room that is not too long for an index
+pub total-sum : (counts : List ℕ) → length counts ≤ 4096 → totalOf counts ≡ sum counts
+unfolding totalOf
+total-sum counts h = simp (le-leb (length counts) 4096 h)
+
+pub total-over : (counts : List ℕ) → 4096 < length counts → totalOf counts ≡ 0
+unfolding totalOf
+total-over counts h = simp (lt-leb (length counts) 4096 h)

@@ -6,7 +6,7 @@ use mathlib.Core.Bool.{Bool, cond, not, _&&_, _||_}
 use mathlib.Core.List.{List, []}
 use lib.ListN.{length, getD, take, drop}
 use lib.Dec.{leb, ltb, eqb}
-use Rattle.basics.specs.Places.{first, some}
+use Rattle.basics.specs.Places.{first, some, sum}
 use Rattle.refusal.specs.Numbers.{SIZE, LENGTH, FRAME, ROW}
 use Rattle.refusal.specs.Tests.{test, _then_}
 use Rattle.refusal.specs.declared.Verdict.{Verdict}
@@ -23,6 +23,10 @@ roomsFit n w labels counts = eqb (length labels) (n * w) && eqb (length counts) 
 -- 1 and 2 for a label room and a count room
 unfoldable pub roomTests : ℕ → ℕ → List ℕ → List ℕ → Verdict
 roomTests n w labels counts = test (sizesFit n w) SIZE 0 then test (roomsFit n w labels counts) LENGTH 0
+
+-- the sum of a count room; 0 for one of over 4,096 counts, which no index has
+unfoldable pub totalOf : List ℕ → ℕ
+totalOf counts = cond (leb (length counts) 4096) (sum counts) 0
 
 -- what those two tests let through
 pub record Rooms (n w : ℕ) (labels counts : List ℕ) : Type 0 where

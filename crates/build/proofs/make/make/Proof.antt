@@ -4,6 +4,7 @@ use mathlib.Core.Path.{ap, _∙_}
 use native.Mathlib.Omega.{arith}
 use borrow.Author.Needs.{needs}
 use lib.ListN.{replicate}
+use Rattle.rows.proofs.RoomLaws.{total-sum}
 use Rattle.build.proofs.BuildOut.{cleared, stopped-out, made-out}
 use Rattle.build.proofs.make.make.Statement.{statement}
 use Rattle.build.proofs.make.make.Tie as tie
@@ -67,10 +68,7 @@ enum-told : tie.Need-enum-told
 enum-told c = search needs
 
 total-requires : tie.Need-total-requires
-total-requires c κs =
-    let k = c .before .before .before .before .before .before .before .before .before .before .before in
-    let j = k .before .before .before .before .before .before .before .before .before .before .before .before .before .before .before in
-    omega (arith, k .walks .kept .1 .1 .1 .1 .1 .1 .0, j .clear .kept .0, j .before .before .before .before .before .before .before .before .before .before .before .before .before .pre .frames)
+total-requires c κs = search needs
 
 same-length-5 : tie.Need-same-length-5
 same-length-5 c = search needs
@@ -87,7 +85,10 @@ same-length-8 c = search needs
 returns-2 : tie.Need-returns-2
 returns-2 c =
     let k = c .before .before .before .before .before .before .before .before .before .before .before .before in
-    made-out (k .walks .ensures) (k .before .before .before .before .before .before .before .before .before .before .before .before .before .before .before .clear .kept .0) (c .before .before .enum-told .given .1) (c .total .ensures .0)
+    let j = k .before .before .before .before .before .before .before .before .before .before .before .before .before .before .before in
+    made-out (k .walks .ensures) (j .clear .kept .0) (c .before .before .enum-told .given .1)
+    (c .total .ensures .0
+    ∙ total-sum _ (omega (arith, k .walks .kept .1 .1 .1 .1 .1 .1 .0, j .clear .kept .0, j .before .before .before .before .before .before .before .before .before .before .before .before .before .pre .frames)))
 
 pub make-spec : {M : Type 1} → statement M
 make-spec =

@@ -7,6 +7,7 @@ use lib.ListN.{length}
 use borrow.Author.Needs.{needs}
 use Rattle.rows.specs.declared.spread.SpreadAnswer.{SpreadAnswer}
 use Rattle.rows.specs.Spread.{spreadOf}
+use Rattle.rows.proofs.RoomLaws.{total-sum}
 use Rattle.listing.specs.Lines.{WIDTH, headText, linesText}
 use Rattle.listing.proofs.TextLaws.{put-more, put-as}
 use Rattle.listing.proofs.IndexLaws.{shown-by, text-shown, text-refused}
@@ -64,7 +65,7 @@ returns-2 c =
     let s = k .before .before .before .before .before .before .before .before in
     let a = s .args in (
       put-as
-          (ap (λ (m : ℕ). headText (a .n) (a .k) m (k .before .answer .given .0 .0) ++ linesText WIDTH (a .order .now) (a .labels .now) (a .counts .now) 0 (length (a .counts .now))) (h .before .before .total .ensures .0)
+          (ap (λ (m : ℕ). headText (a .n) (a .k) m (k .before .answer .given .0 .0) ++ linesText WIDTH (a .order .now) (a .labels .now) (a .counts .now) 0 (length (a .counts .now))) (h .before .before .total .ensures .0 ∙ total-sum _ (omega (arith, s .pre .0 .frames)))
           ∙ text-shown _ _ _ _ _ (spread-is k))
           (put-more (h .head .ensures .0) (l .ensures .0)),
       omega (arith, l .ensures .1, h .head .ensures .1, s .pre .0 .frames),

@@ -1,4 +1,4 @@
--- The sum of the counts. The invariant: the sum so far and the sum of those left are the whole, and a count is
+-- The sum of the counts, where there are not too many. The invariant: the sum so far and the sum of those left are the whole, and a count is
 -- below 2 ^ 32. The counts left grow fewer.
 use Prim.Native.Nat.{ℕ, _+_, _-_, _*_, _^_, _≤_, _<_}
 use mathlib.Core.Path.{_≡_}
@@ -9,6 +9,8 @@ use denote.Ref.{now}
 use lib.ListN.{length, getD, drop}
 use Rattle.basics.specs.Places.{sum}
 use Rattle.basics.proofs.Laws.{sum-from, sum-over}
+use Rattle.rows.specs.Rooms.{totalOf}
+use Rattle.rows.proofs.RoomLaws.{total-sum, total-over}
 use Rattle.rows.proofs.rooms.total.Statement.{statement}
 use Rattle.rows.proofs.rooms.total.Tie as tie
 
@@ -21,14 +23,19 @@ abbrev μ-loop : tie.MeasureT-loop
 -- with the next count
 step : (c : tie.After-shared-slice-known Inv-loop μ-loop) →
     let l = c .before .before .loop in
-    let counts = now (c .before .before .before .args .counts) in
+    let counts = now (c .before .before .before .before .args .counts) in
     (sum (drop (l .v) counts) ≡ getD counts (l .v) 0 + sum (drop (l .v + 1) counts)) × (getD counts (l .v) 0 < 4294967296) × (l .v < 4096)
 step c =
     let l = c .before .before .loop in
     let s = c .before .before .before in
-    let counts : List ℕ = now (s .args .counts) in
+    let counts : List ℕ = now (s .before .args .counts) in
     let i : l .v < length counts = c .before .loop-test .taken in
-    (sum-from counts (l .v) i, omega (arith, c .shared-slice-known .given (l .v)), omega (arith, s .pre))
+    (sum-from counts (l .v) i, omega (arith, c .shared-slice-known .given (l .v)), omega (arith, s .if1 .left))
+
+returns : tie.Need-returns Inv-loop μ-loop
+returns c =
+    let over : totalOf (now (c .before .args .counts)) ≡ 0 = total-over (now (c .before .args .counts)) (c .if1 .taken) in
+    omega arith
 
 loop-holds : tie.Need-loop-holds Inv-loop μ-loop
 loop-holds c = omega arith
@@ -54,13 +61,14 @@ loop-less c = omega arith
 loop-again : tie.Need-loop-again Inv-loop μ-loop
 loop-again c = omega (arith, step c)
 
-returns : tie.Need-returns Inv-loop μ-loop
-returns c =
+returns-2 : tie.Need-returns-2 Inv-loop μ-loop
+returns-2 c =
     let l = c .before .loop in
     let s = c .before .before in
-    let counts : List ℕ = now (s .args .counts) in
-    let most : length counts ≤ 4096 = s .pre in
+    let counts : List ℕ = now (s .before .args .counts) in
+    let most : length counts ≤ 4096 = s .if1 .left in
     let none : sum (drop (l .v) counts) ≡ 0 = sum-over counts (l .v) (c .loop-test .left) in
+    let whole : totalOf counts ≡ sum counts = total-sum counts most in
     omega arith
 
 pub total-spec : {M : Type 1} → statement M
@@ -69,6 +77,7 @@ total-spec =
     (tie.spec
     Inv-loop
     μ-loop
+    returns
     loop-holds
     mul-count
     shared-slice-read-count
@@ -77,4 +86,4 @@ total-spec =
     add-v
     loop-less
     loop-again
-    returns)
+    returns-2)
