@@ -18,15 +18,15 @@ pub enum Walked {
     Far,
 }
 
-// A met frame with this count and mark is kept and has no room.
+// A met frame with this count and mark is kept and has no room. Few rows are full, so that the count is looked at first.
 pub fn lacks_room(w: usize, count: u32, mark: u32) -> bool
     requires { ⌜ 0 < mark ⌝ }
     ensures { λ r. ⌜ r ≡ lacksRoom w count mark ⌝ }
 {
-    if DROPPED <= mark {
+    if (count as usize) < w {
         return false;
     }
-    w <= count as usize
+    mark < DROPPED
 }
 
 // Every kept frame has room for one more entry.

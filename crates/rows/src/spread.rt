@@ -1,6 +1,6 @@
 // The spread: twice the largest joins among used entries of rank 0, or 0 if there is none.
 ghost use mathlib.Core.Path.{_≡_};
-ghost use Rattle.rows.specs.Spread.{spreadOf};
+ghost use Rattle.rows.specs.Spread.{spreadOf, spreadTold};
 use crate::entry::Entry;
 use crate::farthest::front_joins;
 use crate::farthest::larger;
@@ -19,7 +19,8 @@ pub enum SpreadAnswer {
 // The spread of an index, in one pass: every row is tested, and the lowest frame whose row is not sound is named. A row's
 // front is read before its test, so that the test does not wait for it.
 pub fn spread(n: usize, w: usize, labels: &[Entry], counts: &[u32]) -> SpreadAnswer
-    ensures { λ r. ⌜ r ≡ spreadOf n w (now (labels .entry)) (now (counts .entry)) ⌝ }
+    ensures answer { λ r. ⌜ r ≡ spreadOf n w (now (labels .entry)) (now (counts .entry)) ⌝ }
+    ensures numbers { λ r. ⌜ spreadTold r ≡ spreadTold (spreadOf n w (now (labels .entry)) (now (counts .entry))) ⌝ }
 {
     let rooms = check_rooms(n, w, labels, counts);
     if let Verdict::Refused(refusal) = rooms {

@@ -131,7 +131,7 @@ pub record PairCall (n w : ℕ) (labels counts : List ℕ) (s t : ℕ) (r : Answ
 pair-out : {n w : ℕ} {labels counts : List ℕ} {s t : ℕ} {r : Answer} → PairCall n w labels counts s t r
     → r ≡ pairOf n w labels counts s t
 pair-out c =
-    c .post ∙ (λ i. pairOf (c .frames i) (c .width i) (c .labels-lent i) (c .counts-lent i) (c .first i) (c .second i))
+    c .post .0 ∙ (λ i. pairOf (c .frames i) (c .width i) (c .labels-lent i) (c .counts-lent i) (c .first i) (c .second i))
 
 -- any unrefused call of the build leaves rooms that meet demands 2 and 3
 pub build-demands : {n w k : ℕ} {S L O labels₀ counts₀ met₀ queue₀ : List ℕ} {entries : ℕ} {labels counts met queue : List ℕ}

@@ -57,11 +57,11 @@ pub check-row-same : SameAnswer 2 check-row-kinds.ps check-row-kinds.r check-row
 check-row-same κs a r₁ r₂ s₁ s₂ p q = p ∙ sym q
 
 pub pair-same : SameAnswer 2 pair-kinds.ps pair-kinds.r pair-reads.Post
-pair-same κs a r₁ r₂ s₁ s₂ p q = p ∙ sym q
+pair-same κs a r₁ r₂ s₁ s₂ p q = p .0 ∙ sym (q .0)
 
 pub row-same : Same 2 row-kinds.ps row-kinds.r row-reads.Post
     (λ κs r₁ r₂ s₁ s₂. (now r₁ ≡ now r₂) × (ptr r₁ ≡ ptr r₂))
 row-same κs a r₁ r₂ s₁ s₂ p q = (p .0 ∙ sym (q .0), p .1 ∙ sym (q .1))
 
 pub spread-same : SameAnswer 2 spread-kinds.ps spread-kinds.r spread-reads.Post
-spread-same κs a r₁ r₂ s₁ s₂ p q = p ∙ sym q
+spread-same κs a r₁ r₂ s₁ s₂ p q = p .0 ∙ sym (q .0)

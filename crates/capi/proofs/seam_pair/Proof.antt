@@ -23,18 +23,18 @@ returns : tie.Need-returns
 unfolding pairOuts told
 returns c =
     sym (ap (λ (a : Answer). pairOuts (told a)) (c .before .sum .given .1))
-    ∙ ap (λ (a : Answer). pairOuts (told a)) (c .before .before .before .pair .ensures)
+    ∙ ap pairOuts (c .before .before .before .pair .ensures .1)
 
 returns-2 : tie.Need-returns-2
 unfolding pairOuts told
 returns-2 c =
-    sym (ap (λ (a : Answer). pairOuts (told a)) (c .enum-told .given .1)) ∙ ap (λ (a : Answer). pairOuts (told a)) (c .before .before .pair .ensures)
+    sym (ap (λ (a : Answer). pairOuts (told a)) (c .enum-told .given .1)) ∙ ap pairOuts (c .before .before .pair .ensures .1)
 
 returns-3 : tie.Need-returns-3
 unfolding pairOuts told
 returns-3 c =
     sym (ap (λ (a : Answer). pairOuts (told a)) (c .before .r .given .1))
-    ∙ ap (λ (a : Answer). pairOuts (told a)) (c .before .before .before .pair .ensures)
+    ∙ ap pairOuts (c .before .before .before .pair .ensures .1)
 
 pub seam-pair-spec : {M : Type 1} → statement M
 seam-pair-spec = tie.close (tie.spec pair-requires enum-known-sum enum-told enum-known-r returns returns-2 returns-3)

@@ -19,12 +19,12 @@ enum-known-r c = search needs
 returns : tie.Need-returns
 unfolding spreadOuts spreadTold
 returns c =
-    ap (λ (a : SpreadAnswer). spreadOuts (spreadTold a)) (sym (c .before .joins .given .1) ∙ c .before .before .before .spread .ensures)
+    ap (λ (a : SpreadAnswer). spreadOuts (spreadTold a)) (sym (c .before .joins .given .1) ∙ c .before .before .before .spread .ensures .0)
 
 returns-2 : tie.Need-returns-2
 unfolding spreadOuts spreadTold
 returns-2 c =
-    ap (λ (a : SpreadAnswer). spreadOuts (spreadTold a)) (sym (c .before .r .given .1) ∙ c .before .before .before .spread .ensures)
+    ap (λ (a : SpreadAnswer). spreadOuts (spreadTold a)) (sym (c .before .r .given .1) ∙ c .before .before .before .spread .ensures .0)
 
 pub seam-spread-spec : {M : Type 1} → statement M
 seam-spread-spec = tie.close (tie.spec spread-requires enum-known-joins enum-known-r returns returns-2)

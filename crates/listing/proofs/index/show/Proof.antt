@@ -33,7 +33,7 @@ returns : tie.Need-returns
 returns c =
     let r = c .before .before .refused in
     let told = c .before .before .before .before in
-    (put-as (text-refused _ _ _ _ _ (sym (told .before .before .spread .ensures) ∙ told .enum-told .given .1)) (r .ensures .0), omega (arith, r .ensures .1))
+    (put-as (text-refused _ _ _ _ _ (sym (told .before .before .spread .ensures .0) ∙ told .enum-told .given .1)) (r .ensures .0), omega (arith, r .ensures .1))
 
 total-requires : tie.Need-total-requires
 total-requires c κs = search needs
@@ -45,7 +45,7 @@ head-requires c κs = search needs
 spread-is : (c : tie.After-known-told) →
     let a = c .before .before .before .before .before .before .before .before .args in
     spreadOf (a .n) WIDTH (a .labels .now) (a .counts .now) ≡ SpreadAnswer.Spread (c .before .answer .given .0 .0)
-spread-is c = sym (c .before .before .before .spread .ensures) ∙ c .before .answer .given .1
+spread-is c = sym (c .before .before .before .spread .ensures .0) ∙ c .before .answer .given .1
 
 lines-requires : tie.Need-lines-requires
 lines-requires c κs =

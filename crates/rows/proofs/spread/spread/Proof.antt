@@ -10,7 +10,8 @@ use borrow.Author.Needs.{needs}
 use borrow.Author.Tests.{not-true, not-false}
 use denote.Ref.{now}
 use Rattle.rows.specs.Rooms.{Rooms, rowAt, soundRow}
-use Rattle.rows.specs.Spread.{farthest}
+use Rattle.rows.specs.Spread.{farthest, spreadTold}
+use Rattle.rows.specs.declared.spread.SpreadAnswer.{SpreadAnswer}
 use Rattle.rows.proofs.Laws.{row-inside}
 use Rattle.rows.proofs.RoomLaws.{fine-rooms, rooms-refused, sound-rows, unsound-row}
 use Rattle.rows.proofs.SpreadLaws.{sound-front, farthest-small, spread-fine, spread-refused}
@@ -27,6 +28,10 @@ Inv-loop n w labels counts found₀ v₀ found v =
 abbrev μ-loop : tie.MeasureT-loop
 μ-loop n w labels counts found₀ v₀ found v = n - v
 
+-- the answer, and its numbers
+said : {a b : SpreadAnswer} → a ≡ b → (a ≡ b) × (spreadTold a ≡ spreadTold b)
+said e = (e, ap spreadTold e)
+
 check-rooms-requires : tie.Need-check-rooms-requires Inv-loop μ-loop
 check-rooms-requires c κs = search needs
 
@@ -36,9 +41,9 @@ enum-known-rooms c = search needs
 returns : tie.Need-returns Inv-loop μ-loop
 returns c =
     let a = c .before .before .before .before .before .before .args in
-    spread-refused (a .n) (a .w) (now (a .labels)) (now (a .counts))
+    said (spread-refused (a .n) (a .w) (now (a .labels)) (now (a .counts))
     (rooms-refused (a .n) (a .n) (a .w) (now (a .labels)) (now (a .counts))
-    (sym (c .before .before .before .check-rooms .ensures) ∙ c .before .rooms .given .1))
+    (sym (c .before .before .before .check-rooms .ensures) ∙ c .before .rooms .given .1)))
 
 enum-told : tie.Need-enum-told Inv-loop μ-loop
 enum-told c = search needs
@@ -68,9 +73,9 @@ returns-2 : tie.Need-returns-2 Inv-loop μ-loop
 returns-2 c =
     let a = c .before .before .before .before .before .before .before .before .before .before .args in
     let l = c .before .before .before .before .loop in
-    spread-refused (a .n) (a .w) (now (a .labels)) (now (a .counts))
+    said (spread-refused (a .n) (a .w) (now (a .labels)) (now (a .counts))
     (unsound-row (a .n) (l .inv .0) (l .v) (c .before .before .before .loop-test .taken) (l .inv .2)
-    (sym (c .before .sound-row .ensures) ∙ not-true _ (c .if1 .taken)))
+    (sym (c .before .sound-row .ensures) ∙ not-true _ (c .if1 .taken))))
 
 larger-requires : tie.Need-larger-requires Inv-loop μ-loop
 larger-requires c κs = search needs
@@ -107,9 +112,9 @@ returns-3 c =
     let a = c .before .before .before .before .before .before .before .args in
     let l = c .before .loop in
     let e : l .v ≡ a .n = omega arith in
-    spread-fine (a .n) (a .w) (now (a .labels)) (now (a .counts))
+    said (spread-fine (a .n) (a .w) (now (a .labels)) (now (a .counts))
     (sound-rows (a .n) (a .n) (a .w) (now (a .labels)) (now (a .counts)) (l .inv .0) (λ u h. l .inv .2 u (omega arith)))
-    (l .inv .3 ∙ ap (λ (v : ℕ). farthest (a .w) (now (a .labels)) (now (a .counts)) v) e)
+    (l .inv .3 ∙ ap (λ (v : ℕ). farthest (a .w) (now (a .labels)) (now (a .counts)) v) e))
 
 pub spread-spec : {M : Type 1} → statement M
 spread-spec =
