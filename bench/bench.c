@@ -157,6 +157,19 @@ static long search(uint32_t s, uint32_t t) {
 
 /* ---- timing */
 
+/* A time in figures that can be read: three of them, in µs or ms. */
+static const char *span(double seconds) {
+    static char text[32];
+    double t = seconds * 1e6;
+    const char *unit = "µs";
+    if (t >= 1000) {
+        t /= 1000;
+        unit = "ms";
+    }
+    snprintf(text, sizeof text, t >= 100 ? "%.0f %s" : t >= 10 ? "%.1f %s" : "%.2f %s", t, unit);
+    return text;
+}
+
 static double seam_t[ROUNDS], c_t[ROUNDS], r_t[ROUNDS];
 
 #define ROW_OF(name, repeat, lib, cc, rr)                                                        \
@@ -173,7 +186,7 @@ static double seam_t[ROUNDS], c_t[ROUNDS], r_t[ROUNDS];
             c_t[round_] = (t1 - t0) / (t2 - t1);                                                 \
             r_t[round_] = (t1 - t0) / (t3 - t2);                                                 \
         }                                                                                        \
-        printf("| %s | %s | %.3g µs | %.2f | %.2f |\n", block, name, median(seam_t, ROUNDS) * 1e6, \
+        printf("| %s | %s | %s | %.2f | %.2f |\n", block, name, span(median(seam_t, ROUNDS)),    \
                median(c_t, ROUNDS), median(r_t, ROUNDS));                                        \
     } while (0)
 
@@ -228,8 +241,7 @@ static void run(const char *block) {
         search_ratio = faster;
         search_block = block;
     }
-    printf("| %s | pair beside a search (%ld joins) | %.3g µs | %.0f times as fast | |\n", block, apart, per_pair * 1e6,
-           faster);
+    printf("| %s | pair beside a search (%ld joins) | %s | %.0f times as fast | |\n", block, apart, span(per_pair), faster);
     ROW_OF("spread", 20, seam_spread(N, W, labels[0], N * W, counts[0], N, &sp, &place),
            c_spread(N, W, labels[0], N * W, counts[0], N, &sp), r_spread(N, W, labels[0], N * W, counts[0], N, &sp));
     ROW_OF("write", 5,
