@@ -4,7 +4,7 @@ use Prim.Native.Nat.{ℕ, zero, suc, _+_, _-_, _≤_, _<_}
 use mathlib.Core.Path.{_≡_, refl, sym, ap, _∙_}
 use mathlib.Core.Logic.{_⊎_, inl, inr}
 use mathlib.Core.Bool.{Bool, true, false, cond, not, _&&_, _||_, true≢false}
-use mathlib.Core.List.{List, [], _∷_, _++_}
+use mathlib.Core.List.{List, [], _∷_}
 use native.Mathlib.Numerals.{add-one}
 use native.Mathlib.Decide.{decLt, ℕ-discrete}
 use native.Mathlib.Omega.{arith}
@@ -99,6 +99,10 @@ pub cond-false {ℓ} : {A : Type ℓ} {b : Bool} (x y : A) → b ≡ false → c
 cond-false {b = true} x y e = not-both refl e
 cond-false {b = false} x y e = refl
 
+-- the same answer, and what is read off it
+pub read-off {ℓ} : {A B : Type ℓ} (f : A → B) {a b : A} → a ≡ b → (a ≡ b) × (f a ≡ f b)
+read-off f e = (e, ap f e)
+
 -- ---- the first marked place
 
 pub first-hit : (marked : ℕ → Bool) (a left : ℕ) → marked a ≡ true → first marked a (suc left) ≡ a
@@ -165,16 +169,6 @@ first-none marked a left none =
     (λ l. not-both (first-marked marked a left l) (none (first marked a left) (first-low marked a left) l))
     (λ g. omega (arith, first-high marked a left))
 
-pub first-ext : (p q : ℕ → Bool) (a left : ℕ) → ((j : ℕ) → a ≤ j → j < a + left → p j ≡ q j) → first p a left ≡ first q a left
-first-ext p q a zero same = first-end p a ∙ sym (first-end q a)
-first-ext p q a (suc left) same =
-    bcase (p a)
-    (λ e. first-hit p a left e ∙ sym (first-hit q a left (sym (same a (omega arith) (omega arith)) ∙ e)))
-    (λ e.
-    first-miss p a left e
-    ∙ first-ext p q (suc a) left (λ j h k. same j (omega arith) (omega arith))
-    ∙ sym (first-miss q a left (sym (same a (omega arith) (omega arith)) ∙ e)))
-
 -- ---- some marked place
 
 pub some-hit : (marked : ℕ → Bool) (a left : ℕ) → marked a ≡ true → some marked a (suc left) ≡ true
@@ -234,16 +228,6 @@ some-ext p q a (suc left) same =
     ∙ some-ext p q (suc a) left (λ j h k. same j (omega arith) (omega arith))
     ∙ sym (some-miss q a left (sym (same a (omega arith) (omega arith)) ∙ e)))
 
--- one more place behind a run that has none
-pub some-last : (marked : ℕ → Bool) (a left : ℕ) → some marked a left ≡ false → marked (a + left) ≡ false
-    → some marked a (suc left) ≡ false
-some-last marked a left none e =
-    some-none marked a (suc left)
-    (λ j h k.
-    by-cases (ℕ-discrete j (a + left))
-    (λ (q : j ≡ a + left). ap marked q ∙ e)
-    (λ q. some-not marked a left j none h (omega arith)))
-
 -- ---- what stands at a place
 
 pub stands-at : (f : ℕ → ℕ) (k r : ℕ) → r < k → stands f k (f r) ≡ true
@@ -255,6 +239,24 @@ unfolding stands
 stands-by f k v e =
     let (r, low, h, m) = some-found (λ j. eqb (f j) v) 0 k e in
     (r, omega arith, eqb-true (f r) v m)
+
+-- nothing stands below place 0
+pub stands-none : (f : ℕ → ℕ) (v : ℕ) → stands f 0 v ≡ false
+unfolding stands
+stands-none f v = some-end _ 0
+
+-- one place on, all but what stands there stands as before
+pub stands-other : (f : ℕ → ℕ) (r v : ℕ) → (v ≡ f r → ⊥) → stands f (r + 1) v ≡ stands f r v
+stands-other f r v apart =
+    same-truth _ _
+    (λ t.
+    let (j, h, e) = stands-by f (r + 1) v t in
+    by-cases (ℕ-discrete j r)
+    (λ (q : j ≡ r). absurd (apart (sym e ∙ ap f q)))
+    (λ q. ap (stands f r) (sym e) ∙ stands-at f r j (omega arith)))
+    (λ t.
+    let (j, h, e) = stands-by f r v t in
+    ap (stands f (r + 1)) (sym e) ∙ stands-at f (r + 1) j (omega arith))
 
 -- ---- how many are marked
 
@@ -361,14 +363,6 @@ least-found most (suc k) f h =
     (i, omega arith, omega arith))
     (λ g. (k, omega arith, omega arith))
 
-pub least-ext : (most k : ℕ) (f g : ℕ → ℕ) → ((i : ℕ) → i < k → f i ≡ g i) → least most k f ≡ least most k g
-unfolding least
-least-ext most zero f g same = refl
-least-ext most (suc k) f g same =
-    let one : f k ≡ g k = same k (omega arith) in
-    let rest : least most k f ≡ least most k g = least-ext most k f g (λ i h. same i (omega arith)) in
-    omega arith
-
 -- ---- tables
 
 pub length-table {ℓ} : {A : Type ℓ} (n : ℕ) (f : ℕ → A) → length (table n f) ≡ n
@@ -397,20 +391,6 @@ table-ext (suc n) f g same =
     let rest : table n (λ i. f (suc i)) ≡ table n (λ i. g (suc i)) =
     table-ext n (λ i. f (suc i)) (λ i. g (suc i)) (λ i h. same (suc i) (omega arith)) in
     λ j. one j ∷ rest j
-
--- ---- sums
-
-pub sum-append : (xs ys : List ℕ) → sum (xs ++ ys) ≡ sum xs + sum ys
-unfolding sum
-sum-append [] ys = omega arith
-sum-append (x ∷ xs) ys = omega (arith, sum-append xs ys)
-
--- a stored element takes the old one's place in the sum
-pub sum-set : (xs : List ℕ) (i a : ℕ) → i < length xs → sum (set xs i a) + getD xs i 0 ≡ sum xs + a
-unfolding sum
-sum-set [] i a h = absurd (omega arith)
-sum-set (x ∷ xs) zero a h = omega arith
-sum-set (x ∷ xs) (suc i) a h = omega (arith, sum-set xs i a (omega arith))
 
 -- ---- one stored place
 

@@ -26,7 +26,8 @@ fn is_equal(said: Answer, joins: u32) -> bool {
     }
 }
 
-// Whether every answer for s is the count that the searches have for it; the first that is not is printed.
+// Every answer for s held against the count that the searches have for it; the first that differs is printed, and nothing is
+// compared behind it.
 pub fn compare_row(
     n: usize,
     w: usize,
@@ -35,18 +36,22 @@ pub fn compare_row(
     counts: &[u32],
     s: usize,
     joins: &[u32],
-) -> bool {
+    before: Tally,
+) -> Tally {
+    if !before.is_equal {
+        return before;
+    }
     let mut t = 0;
     while t < n {
         let said = pair(n, w, labels, counts, s, t);
         let count = get(joins, t);
         if !is_equal(said, count) {
             say::difference(n, k, s, t, said, count);
-            return false;
+            return before.unequal();
         }
         t += 1;
     }
-    true
+    before.compared(n)
 }
 
 // Every pair of one build.
@@ -62,11 +67,7 @@ fn compare(
     let mut tally = before.built();
     let mut s = 0;
     while s < n {
-        let row = sums_of(sums, s);
-        if !compare_row(n, w, k, labels, counts, s, row) {
-            return tally.unequal();
-        }
-        tally = tally.compared(n);
+        tally = compare_row(n, w, k, labels, counts, s, sums_of(sums, s), tally);
         s += 1;
     }
     tally

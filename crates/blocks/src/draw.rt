@@ -1,6 +1,6 @@
 // Blocks and orders at random. A block is a square of marks, symmetric and without its diagonal, and is then laid out, as
 // the grid is, as start positions and lists.
-ghost use Prim.Native.Nat.{_<_};
+ghost use Prim.Native.Nat.{_≤_};
 use crate::grid::is_beside;
 use crate::room::get;
 use crate::room::push;
@@ -16,7 +16,7 @@ pub fn roll(seed: u64) -> u64 {
 
 // A number below `most`, 0 where that is 0.
 pub fn below(seed: u64, most: usize) -> usize
-    ensures { λ r. ⌜ r < 2147483647 ⌝ }
+    ensures { λ r. ⌜ r ≤ most ⌝ }
 {
     if most == 0 {
         return 0;
@@ -24,30 +24,18 @@ pub fn below(seed: u64, most: usize) -> usize
     (seed % 2147483647) as usize % most
 }
 
+// The place of a pair of frames in a square.
+pub fn place_of(s: usize, t: usize) -> usize {
+    s % SIDE * SIDE + t % SIDE
+}
+
 // Marks one join both ways, unless it is a frame with itself.
 fn mark(marks: &mut [u32], s: usize, t: usize) {
     if s == t {
         return;
     }
-    if SIDE <= s {
-        return;
-    }
-    if SIDE <= t {
-        return;
-    }
-    put(marks, s * SIDE + t, 1);
-    put(marks, t * SIDE + s, 1);
-}
-
-// Whether frame s is joined to frame t.
-fn is_marked(marks: &[u32], s: usize, t: usize) -> bool {
-    if SIDE <= s {
-        return false;
-    }
-    if SIDE <= t {
-        return false;
-    }
-    get(marks, s * SIDE + t) == 1
+    put(marks, place_of(s, t), 1);
+    put(marks, place_of(t, s), 1);
 }
 
 // Draws so many joins between n frames; some fall together, and some frames stay alone.
@@ -77,7 +65,7 @@ fn is_joined(is_grid: bool, marks: &[u32], s: usize, t: usize) -> bool {
     if is_grid {
         return is_beside(s, t);
     }
-    is_marked(marks, s, t)
+    get(marks, place_of(s, t)) == 1
 }
 
 // The list of frame v from place `from` on; the place behind it.

@@ -55,10 +55,7 @@ fn compare_sources(
         seed = roll(seed);
         let s = below(seed, FRAMES);
         search_from(FRAMES, starts, places, s, met, queue);
-        if !compare_row(FRAMES, WIDTH, FRAMES, labels, counts, s, met) {
-            return tally.unequal();
-        }
-        tally = tally.compared(FRAMES);
+        tally = compare_row(FRAMES, WIDTH, FRAMES, labels, counts, s, met, tally);
         left -= 1;
     }
     tally
@@ -126,7 +123,7 @@ fn try_grid(
 }
 
 fn run(
-    labels: &mut [Entry; 1048576],
+    labels: &mut [Entry; FRAMES * WIDTH],
     starts: &mut [u32],
     places: &mut [u32],
     order: &mut [u32],
@@ -140,13 +137,13 @@ fn run(
 }
 
 pub fn grid() {
-    let mut labels: [Entry; 1048576] = [0; 1048576];
-    let mut starts = [0u32; 4097];
+    let mut labels: [Entry; FRAMES * WIDTH] = [0; FRAMES * WIDTH];
+    let mut starts = [0u32; FRAMES + 1];
     let mut places = [0u32; 16128];
-    let mut order = [0u32; 4096];
-    let mut counts = [0u32; 4096];
-    let mut met = [0u32; 4096];
-    let mut queue = [0u32; 4096];
+    let mut order = [0u32; FRAMES];
+    let mut counts = [0u32; FRAMES];
+    let mut met = [0u32; FRAMES];
+    let mut queue = [0u32; FRAMES];
     run(
         &mut labels,
         &mut starts,

@@ -1,13 +1,15 @@
 // The kinds of random blocks: how many frames, how wide a row, which joins.
+ghost use Prim.Native.Nat.{_≤_};
 use crate::draw::SIDE;
 use crate::draw::below;
 use crate::draw::draw;
 use crate::draw::draw_path;
 use crate::draw::lay;
-use crate::room::fill;
 
 // Frames of a block: every size once, then small ones.
-pub fn size_of(block: usize, seed: u64) -> usize {
+pub fn size_of(block: usize, seed: u64) -> usize
+    ensures { λ r. ⌜ r ≤ 200 ⌝ }
+{
     if block <= SIDE {
         return block;
     }
@@ -15,7 +17,9 @@ pub fn size_of(block: usize, seed: u64) -> usize {
 }
 
 // Most entries of a row: n for three blocks of four, else a few.
-pub fn width_of(block: usize, n: usize, seed: u64) -> usize {
+pub fn width_of(block: usize, n: usize, seed: u64) -> usize
+    ensures { λ r. ⌜ r ≤ n ⌝ }
+{
     if block % 4 == 3 {
         let few = 1 + below(seed, 16);
         if few < n {
@@ -25,34 +29,31 @@ pub fn width_of(block: usize, n: usize, seed: u64) -> usize {
     n
 }
 
-// Draws a block of one of six kinds.
-fn draw_kind(marks: &mut [u32], n: usize, kind: usize, seed: u64) {
-    fill(marks, 0);
-    if SIDE < n {
-        return;
+// How many frames a path runs through: all of them in the first two kinds of block, none in the others.
+fn path_of(n: usize, kind: usize) -> usize {
+    if kind < 2 { n } else { 0 }
+}
+
+// How many joins are drawn at random in a block of each of the six kinds.
+fn joins_of(n: usize, kind: usize) -> usize
+    requires { ⌜ n ≤ 200 ⌝ }
+{
+    match kind {
+        0 => 0,
+        1 => n / 8,
+        2 => n / 2,
+        3 => n,
+        4 => n * 3,
+        _ => n * 30,
     }
-    if kind == 0 {
-        draw_path(marks, n);
-        return;
-    }
-    if kind == 1 {
-        draw_path(marks, n);
-        draw(marks, n, n / 8, seed);
-        return;
-    }
-    if kind == 2 {
-        draw(marks, n, n / 2, seed);
-        return;
-    }
-    if kind == 3 {
-        draw(marks, n, n, seed);
-        return;
-    }
-    if kind == 4 {
-        draw(marks, n, n * 3, seed);
-        return;
-    }
-    draw(marks, n, n * 30, seed);
+}
+
+// Draws a block of one kind into a square of no marks.
+fn draw_kind(marks: &mut [u32], n: usize, kind: usize, seed: u64)
+    requires { ⌜ n ≤ 200 ⌝ }
+{
+    draw_path(marks, path_of(n, kind));
+    draw(marks, n, joins_of(n, kind), seed);
 }
 
 // Start positions and lists of a random block; how many neighbour places there are.
@@ -63,7 +64,9 @@ pub fn make_block(
     marks: &mut [u32],
     starts: &mut [u32],
     places: &mut [u32],
-) -> usize {
+) -> usize
+    requires { ⌜ n ≤ 200 ⌝ }
+{
     draw_kind(marks, n, kind, seed);
     lay(false, marks, n, starts, places)
 }

@@ -19,22 +19,6 @@ pub fn push(room: &mut [u32], at: usize, value: usize) -> usize {
     at
 }
 
-// The first n places of a room, and all of it where there are fewer: the library then says LENGTH.
-pub fn part(room: &[u32], n: usize) -> &[u32] {
-    if room.len() < n {
-        return room;
-    }
-    &room[..n]
-}
-
-// The same part, to be changed.
-pub fn front(room: &mut [u32], n: usize) -> &mut [u32] {
-    if room.len() < n {
-        return room;
-    }
-    &mut room[..n]
-}
-
 // The places of a room from one on, all of them where that lies past the end.
 pub fn behind(room: &[u32], from: usize) -> &[u32] {
     if room.len() < from {

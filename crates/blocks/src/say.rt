@@ -9,7 +9,7 @@ pub fn text(words: &[u8]) {
 
 // A word and a number behind it.
 pub fn field(word: &[u8], number: usize) {
-    io::write_all(STDOUT_FILENO, word);
+    text(word);
     io::print_decimal(STDOUT_FILENO, number as u64);
 }
 

@@ -1,5 +1,5 @@
 // Plain breadth-first counts, and for each pair the least sum over the hubs searched so far.
-use crate::draw::SIDE;
+use crate::draw::place_of;
 use crate::room::behind;
 use crate::room::fill;
 use crate::room::get;
@@ -19,9 +19,8 @@ pub fn search_from(
     queue: &mut [u32],
 ) {
     fill(joins, NONE);
-    put(joins, hub, 0);
     let mut head = 0;
-    let mut tail = push(queue, 0, hub);
+    let mut tail = meet(hub, 0, joins, queue, 0);
     while head < n {
         if tail <= head {
             return;
@@ -70,27 +69,24 @@ pub fn lower_sums(n: usize, joins: &[u32], sums: &mut [u32]) {
     }
 }
 
+// Stores a sum where a greater one stands.
+fn lower(sums: &mut [u32], at: usize, sum: usize) {
+    if sum < get(sums, at) as usize {
+        put(sums, at, sum as u32);
+    }
+}
+
 fn lower_row(n: usize, s: usize, joins: &[u32], sums: &mut [u32]) {
-    if SIDE < n {
-        return;
-    }
-    if SIDE <= s {
-        return;
-    }
     let there = get(joins, s) as usize;
     let mut t = 0;
     while t < n {
-        let sum = there + get(joins, t) as usize;
-        let at = s * SIDE + t;
-        let least = get(sums, at) as usize;
-        if sum < least {
-            put(sums, at, sum as u32);
-        }
+        let back = get(joins, t) as usize;
+        lower(sums, place_of(s, t), there + back);
         t += 1;
     }
 }
 
 // The least sums of frame s with each frame, NONE where no hub searched so far reaches both.
 pub fn sums_of(sums: &[u32], s: usize) -> &[u32] {
-    behind(sums, s % SIDE * SIDE)
+    behind(sums, place_of(s, 0))
 }

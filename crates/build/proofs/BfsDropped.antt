@@ -10,48 +10,48 @@ use native.Mathlib.Omega.{arith}
 use lib.ListN.{length, getD, set, length-set}
 use lib.Seq.{getD-set-same, getD-set-other}
 use Rattle.basics.proofs.Laws.{by-cases, cases}
-use Rattle.build.specs.Explore.{Queue, Bfs, levelAt}
+use Rattle.build.specs.Explore.{Queue, Bfs, metAt}
 use Rattle.build.proofs.BfsQueue.{filled-set}
 use Rattle.build.proofs.BfsStep.{Carried, done-stays, parent-stays, apart}
 
-module _ {n : ℕ} {S L : List ℕ} {drop : ℕ → ℕ → Bool} {hub : ℕ} {M Q : List ℕ} {h t : ℕ}
-    (b : Bfs n S L drop hub M Q h t) (more : h < t) where
-  module _ (x : ℕ) (is : getD M (getD Q h 0) 0 ≡ x) {r : Bool} (says : r ≡ drop (getD Q h 0) (x - 1))
+module _ {n : ℕ} {S L : List ℕ} {drop : ℕ → ℕ → Bool} {hub : ℕ} {M Q : List ℕ} {head tail : ℕ}
+    (b : Bfs n S L drop hub M Q head tail) (more : head < tail) where
+  module _ (mark : ℕ) (is : getD M (getD Q head 0) 0 ≡ mark) {r : Bool} (says : r ≡ drop (getD Q head 0) (mark - 1))
       (hit : r ≡ true) where
-    inside : getD Q h 0 < length M
-    inside = b .line .is .low h more
+    inside : getD Q head 0 < length M
+    inside = b .line .is .low head more
 
-    first-met : 1 ≤ x
-    first-met = omega (arith, is, b .line .is .marked h more)
+    first-met : 1 ≤ mark
+    first-met = omega (arith, is, b .line .is .marked head more)
 
-    not-marked : x < 65536
-    not-marked = omega (arith, is, b .plain h (omega arith) more)
+    not-marked : mark < 65536
+    not-marked = omega (arith, is, b .plain head (omega arith) more)
 
     M' : List ℕ
-    M' = set M (getD Q h 0) (x + 65536)
+    M' = set M (getD Q head 0) (mark + 65536)
 
     long : length M' ≡ length M
     unfolding M'
-    long = length-set M (getD Q h 0) (x + 65536)
+    long = length-set M (getD Q head 0) (mark + 65536)
 
-    here : getD M' (getD Q h 0) 0 ≡ x + 65536
+    here : getD M' (getD Q head 0) 0 ≡ mark + 65536
     unfolding M'
-    here = getD-set-same M (getD Q h 0) (x + 65536) 0 inside
+    here = getD-set-same M (getD Q head 0) (mark + 65536) 0 inside
 
-    other : (v : ℕ) → (v ≡ getD Q h 0 → ⊥) → getD M' v 0 ≡ getD M v 0
+    other : (v : ℕ) → (v ≡ getD Q head 0 → ⊥) → getD M' v 0 ≡ getD M v 0
     unfolding M'
-    other v p = getD-set-other M (getD Q h 0) v (x + 65536) 0 p
+    other v p = getD-set-other M (getD Q head 0) v (mark + 65536) 0 p
 
-    at-frame {ℓ} : {C : Type ℓ} (v : ℕ) → (getD M' v 0 ≡ getD M v 0 + 65536 → getD M v 0 ≡ x → C) → (getD M' v 0 ≡ getD M v 0 → C) → C
+    at-frame {ℓ} : {C : Type ℓ} (v : ℕ) → (getD M' v 0 ≡ getD M v 0 + 65536 → getD M v 0 ≡ mark → C) → (getD M' v 0 ≡ getD M v 0 → C) → C
     at-frame v f g =
-        by-cases (ℕ-discrete v (getD Q h 0))
-        (λ (q : v ≡ getD Q h 0).
-        let old : getD M v 0 ≡ x = ap (λ (k : ℕ). getD M k 0) q ∙ is in
-        let new : getD M' v 0 ≡ x + 65536 = ap (λ (k : ℕ). getD M' k 0) q ∙ here in
+        by-cases (ℕ-discrete v (getD Q head 0))
+        (λ (q : v ≡ getD Q head 0).
+        let old : getD M v 0 ≡ mark = ap (λ (k : ℕ). getD M k 0) q ∙ is in
+        let new : getD M' v 0 ≡ mark + 65536 = ap (λ (k : ℕ). getD M' k 0) q ∙ here in
         f (omega arith) old)
         (λ q. g (other v q))
 
-    level : (v : ℕ) → levelAt M' v ≡ levelAt M v
+    level : (v : ℕ) → metAt M' v ≡ metAt M v
     level v = at-frame v (λ s o. omega (arith, not-marked)) (λ s. omega arith)
 
     stays : (v : ℕ) → 0 < getD M v 0 → 0 < getD M' v 0
@@ -60,10 +60,10 @@ module _ {n : ℕ} {S L : List ℕ} {drop : ℕ → ℕ → Bool} {hub : ℕ} {M
     was : (v : ℕ) → 0 < getD M' v 0 → 0 < getD M v 0
     was v m = at-frame v (λ s o. omega (arith, first-met)) (λ s. omega arith)
 
-    same : (i : ℕ) → i < t → (i ≡ h → ⊥) → getD M' (getD Q i 0) 0 ≡ getD M (getD Q i 0) 0
+    same : (i : ℕ) → i < tail → (i ≡ head → ⊥) → getD M' (getD Q i 0) 0 ≡ getD M (getD Q i 0) 0
     same i p q = other (getD Q i 0) (apart b more i p q)
 
-    carried : Carried M Q h M' Q
+    carried : Carried M Q head M' Q
     carried =
         record {
           same = λ i q. same i (omega arith) (λ e. omega arith);
@@ -72,7 +72,7 @@ module _ {n : ℕ} {S L : List ℕ} {drop : ℕ → ℕ → Bool} {hub : ℕ} {M
           front = λ i q. refl;
         }
 
-    line' : Queue M' Q t
+    line' : Queue M' Q tail
     unfolding M'
     line' =
         record {
@@ -85,10 +85,10 @@ module _ {n : ℕ} {S L : List ℕ} {drop : ℕ → ℕ → Bool} {hub : ℕ} {M
             once = b .line .is .once;
             rest = b .line .is .rest;
           };
-          count = omega (arith, filled-set M (getD Q h 0) (x + 65536) inside, b .line .count, is, first-met);
+          count = omega (arith, filled-set M (getD Q head 0) (mark + 65536) inside, b .line .count, is, first-met);
         }
 
-    pub bfs-drop : Bfs n S L drop hub (set M (getD Q h 0) (x + 65536)) Q (h + 1) t
+    pub bfs-drop : Bfs n S L drop hub (set M (getD Q head 0) (mark + 65536)) Q (head + 1) tail
     unfolding M'
     bfs-drop =
         record {
@@ -99,8 +99,8 @@ module _ {n : ℕ} {S L : List ℕ} {drop : ℕ → ℕ → Bool} {hub : ℕ} {M
           first = b .first;
           start = level hub ∙ b .start;
           small = λ i p.
-              by-cases (ℕ-discrete i h)
-              (λ (q : i ≡ h). rw q (omega (arith, here, not-marked)))
+              by-cases (ℕ-discrete i head)
+              (λ (q : i ≡ head). rw q (omega (arith, here, not-marked)))
               (λ q. omega (arith, same i p q, b .small i p));
           least = λ i p. omega (arith, level (getD Q i 0), b .least i p);
           rise = λ i j p q. omega (arith, level (getD Q i 0), level (getD Q j 0), b .rise i j p q);
@@ -108,9 +108,9 @@ module _ {n : ℕ} {S L : List ℕ} {drop : ℕ → ℕ → Bool} {hub : ℕ} {M
               omega (
                 arith,
                 level (getD Q j 0),
-                level (getD Q (h + 1) 0),
+                level (getD Q (head + 1) 0),
                 b .near j more q,
-                b .rise h (h + 1) (omega arith) p,
+                b .rise head (head + 1) (omega arith) p,
               );
           short = λ j p. omega (arith, level (getD Q j 0), b .short j p);
           plain = λ j p q. omega (arith, same j q (λ e. omega arith), b .plain j (omega arith) q);
@@ -120,15 +120,15 @@ module _ {n : ℕ} {S L : List ℕ} {drop : ℕ → ℕ → Bool} {hub : ℕ} {M
               inr
               (parent-stays carried (getD Q j 0) (b .line .is .marked j p) r));
           done = λ i p.
-              by-cases (ℕ-discrete i h)
-              (λ (q : i ≡ h).
+              by-cases (ℕ-discrete i head)
+              (λ (q : i ≡ head).
               rw q
               (inr
               (record {
                 marked = omega (arith, here);
                 found =
-                    ap (λ (l : ℕ). drop (getD Q h 0) l)
-                    (let l : levelAt M' (getD Q h 0) - 1 ≡ x - 1 = omega (arith, here, not-marked) in l)
+                    ap (λ (l : ℕ). drop (getD Q head 0) l)
+                    (let l : metAt M' (getD Q head 0) - 1 ≡ mark - 1 = omega (arith, here, not-marked) in l)
                     ∙ sym says
                     ∙ hit;
               })))

@@ -17,30 +17,31 @@ use Rattle.theory.specs.Walk.{Met, levels}
 use Rattle.theory.proofs.DistPlain.{joined-link, link-joined}
 use Rattle.theory.proofs.Levels.{oneEach, met-levels}
 use Rattle.build.specs.Walk.{mark}
-use Rattle.build.specs.Explore.{Bfs, Low, Kept, Dropped, levelAt}
+use Rattle.build.specs.Explore.{Bfs, Low, Kept, Dropped, metAt}
+use Rattle.build.proofs.RoomMarks.{mark-yes, mark-drop, mark-none}
 
 -- the level that a met room holds for v, and B where v is not met
 unfoldable pub levelIn : ℕ → List ℕ → ℕ → ℕ
-levelIn B M v = cond (ltb 0 (getD M v 0)) (levelAt M v - 1) B
+levelIn B M v = cond (ltb 0 (getD M v 0)) (metAt M v - 1) B
 
 module _ {n : ℕ} {S L : List ℕ} (block : Block n 1 S L ones) {drop : ℕ → ℕ → Bool} {hub : ℕ} (inside : hub < n)
-    {M Q : List ℕ} {t : ℕ} (b : Bfs n S L drop hub M Q t t) (B : ℕ) (above : n < B) (A : ℕ → ℕ)
+    {M Q : List ℕ} {tail : ℕ} (b : Bfs n S L drop hub M Q tail tail) (B : ℕ) (above : n < B) (A : ℕ → ℕ)
     (capped : (u : ℕ) → A u ≤ B)
     (test : (u level : ℕ) → u < n → level < n → drop u level ≡ leb (A u) level) where
   not-met : (v : ℕ) → getD M v 0 ≡ 0 → levelIn B M v ≡ B
   unfolding levelIn
   not-met v e = cond-false _ _ (le-ltb 0 (getD M v 0) (omega arith))
 
-  is-met : (v : ℕ) → 0 < getD M v 0 → levelIn B M v ≡ levelAt M v - 1
+  is-met : (v : ℕ) → 0 < getD M v 0 → levelIn B M v ≡ metAt M v - 1
   unfolding levelIn
   is-met v m = cond-true _ _ (lt-ltb 0 (getD M v 0) m)
 
   -- a frame that is met stands in the queue and is done; its level is below n
   record Place (v : ℕ) : Type 0 where
     at : ℕ
-    before : at < t
+    before : at < tail
     here : getD Q at 0 ≡ v
-    level : levelIn B M v + 1 ≡ levelAt M v
+    level : levelIn B M v + 1 ≡ metAt M v
     low : levelIn B M v < n
     small : getD M v 0 < 131072
     done : Kept S L drop M v ⊎ Dropped drop M v
@@ -48,8 +49,8 @@ module _ {n : ℕ} {S L : List ℕ} (block : Block n 1 S L ones) {drop : ℕ →
   place : (v : ℕ) → v < n → 0 < getD M v 0 → Place v
   place v h m =
       let (i, p, q) = b .line .is .all v (omega (arith, b .long)) m in
-      let one : 1 ≤ levelAt M v = rw q at (b .least i p) in
-      let most : levelAt M v ≤ i + 1 = rw q at (b .short i p) in
+      let one : 1 ≤ metAt M v = rw q at (b .least i p) in
+      let most : metAt M v ≤ i + 1 = rw q at (b .short i p) in
       record {
         at = i;
         before = p;
@@ -68,16 +69,17 @@ module _ {n : ℕ} {S L : List ℕ} (block : Block n 1 S L ones) {drop : ℕ →
       let e : getD M v 0 ≡ 0 = omega arith in
       out e (not-met v e))
 
-  -- kept: below the answer; dropped: not below it
+  -- the drop test of a met frame is by its level, so kept is below the answer, and dropped is not
+  by-level : (v : ℕ) → v < n → Place v → drop v (metAt M v - 1) ≡ leb (A v) (levelIn B M v)
+  by-level v h p =
+      let l : metAt M v - 1 ≡ levelIn B M v = omega (arith, p .level) in
+      ap (drop v) l ∙ test v (levelIn B M v) h (p .low)
+
   kept-below : (v : ℕ) → v < n → Place v → Kept S L drop M v → levelIn B M v < A v
-  kept-below v h p k =
-      let l : levelAt M v - 1 ≡ levelIn B M v = omega (arith, p .level) in
-      leb-false (A v) (levelIn B M v) (sym (test v (levelIn B M v) h (p .low)) ∙ ap (drop v) (sym l) ∙ k .free)
+  kept-below v h p k = leb-false (A v) (levelIn B M v) (sym (by-level v h p) ∙ k .free)
 
   dropped-above : (v : ℕ) → v < n → Place v → Dropped drop M v → A v ≤ levelIn B M v
-  dropped-above v h p d =
-      let l : levelAt M v - 1 ≡ levelIn B M v = omega (arith, p .level) in
-      leb-true (A v) (levelIn B M v) (sym (test v (levelIn B M v) h (p .low)) ∙ ap (drop v) (sym l) ∙ d .found)
+  dropped-above v h p d = leb-true (A v) (levelIn B M v) (sym (by-level v h p) ∙ d .found)
 
   cap : (v : ℕ) → v < n → levelIn B M v ≤ B
   cap v h = at-frame v h (λ e o. omega arith) (λ m p. omega (arith, p .low))
@@ -112,7 +114,7 @@ module _ {n : ℕ} {S L : List ℕ} (block : Block n 1 S L ones) {drop : ℕ →
       let low : u < n = omega (arith, b .line .is .low (r .place) (r .before), b .long) in
       let pu : Place u = place u low (b .line .is .marked (r .place) (r .before)) in
       let link : Link S L ones u v 1 = rw (pv .here) at (r .link) in
-      let level : levelAt M v ≡ levelAt M u + 1 = rw (pv .here) at (r .level) in
+      let level : metAt M v ≡ metAt M u + 1 = rw (pv .here) at (r .level) in
       let one : oneEach B (joined S L) u v ≡ 1 = cond-true 1 B (link-joined block low link) in
       cases (pu .done)
       (λ k. (u, low, kept-below u low pu k, omega (arith, pu .level, pv .level)))
@@ -130,34 +132,30 @@ module _ {n : ℕ} {S L : List ℕ} (block : Block n 1 S L ones) {drop : ℕ →
 
   -- the met room, place by place
   room-at : (v : ℕ) → v < n → getD M v 0 ≡ mark B (levels B n (joined S L) A hub n v) (A v)
-  unfolding mark
   room-at v h =
       let same : levelIn B M v ≡ levels B n (joined S L) A hub n v =
       met-levels B n (joined S L) A hub inside above (levelIn B M) bfs-met v h in
       rw (← same)
       (at-frame v h
-      (λ e o. e ∙ sym (cond-false _ _ (le-ltb (levelIn B M v) B (omega arith))))
+      (λ e o. e ∙ sym (mark-none B (levelIn B M v) (A v) (omega arith)))
       (λ m p.
+      let low : levelIn B M v < B = omega (arith, p .low) in
       cases (p .done)
-      (λ k.
-      rw (lt-ltb (levelIn B M v) B (omega (arith, p .low)), lt-ltb (levelIn B M v) (A v) (kept-below v h p k))
-      (omega (arith, p .level, k .plain)))
-      (λ d.
-      rw (lt-ltb (levelIn B M v) B (omega (arith, p .low)), le-ltb (levelIn B M v) (A v) (dropped-above v h p d))
-      (omega (arith, p .level, d .marked, p .small)))))
+      (λ k. omega (arith, mark-yes B (levelIn B M v) (A v) low (kept-below v h p k), p .level, k .plain))
+      (λ d. omega (arith, mark-drop B (levelIn B M v) (A v) low (dropped-above v h p d), p .level, d .marked, p .small))))
 
   pub bfs-room : M ≡ table n (λ v. mark B (levels B n (joined S L) A hub n v) (A v))
   bfs-room = is-table 0 M n (λ v. mark B (levels B n (joined S L) A hub n v) (A v)) (b .long) room-at
 
 -- level j + 1 needs j frames before it in the queue
-pub bfs-low : {n : ℕ} {S L : List ℕ} {drop : ℕ → ℕ → Bool} {hub : ℕ} {M Q : List ℕ} {t : ℕ} → Bfs n S L drop hub M Q t t → Low M t
+pub bfs-low : {n : ℕ} {S L : List ℕ} {drop : ℕ → ℕ → Bool} {hub : ℕ} {M Q : List ℕ} {tail : ℕ} → Bfs n S L drop hub M Q tail tail → Low M tail
 bfs-low {M = M} b =
     record {
       mark = λ v h plain.
           lt-or-ge 0 (getD M v 0)
           (λ m.
           let (i, p, q) = b .line .is .all v h m in
-          let short : levelAt M v ≤ i + 1 = rw q at (b .short i p) in
+          let short : metAt M v ≤ i + 1 = rw q at (b .short i p) in
           omega arith)
           (λ z. omega arith);
     }

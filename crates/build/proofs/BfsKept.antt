@@ -11,40 +11,40 @@ use lib.ListN.{getD}
 use Rattle.basics.proofs.Laws.{by-cases, cases, lt-or-ge}
 use Rattle.theory.specs.Links.{Link}
 use Rattle.theory.specs.Plain.{ones}
-use Rattle.build.specs.Explore.{Grown, Bfs, Kept, levelAt}
+use Rattle.build.specs.Explore.{Grown, Bfs, Kept, metAt}
 use Rattle.build.proofs.BfsStep.{Carried, done-stays, parent-stays}
 
-module _ {n : ℕ} {S L : List ℕ} {drop : ℕ → ℕ → Bool} {hub : ℕ} {M Q : List ℕ} {h t : ℕ}
-    (b : Bfs n S L drop hub M Q h t) (more : h < t) where
-  module _ (x : ℕ) (is : getD M (getD Q h 0) 0 ≡ x) {r : Bool} (says : r ≡ drop (getD Q h 0) (x - 1))
+module _ {n : ℕ} {S L : List ℕ} {drop : ℕ → ℕ → Bool} {hub : ℕ} {M Q : List ℕ} {head tail : ℕ}
+    (b : Bfs n S L drop hub M Q head tail) (more : head < tail) where
+  module _ (mark : ℕ) (is : getD M (getD Q head 0) 0 ≡ mark) {r : Bool} (says : r ≡ drop (getD Q head 0) (mark - 1))
       (free : r ≡ false) (frames : n ≤ 4096)
-      {M' Q' : List ℕ} {t' : ℕ}
-      (g : Grown S L (getD Q h 0) (getD S (getD Q h 0 + 1) 0) (x + 1) M Q t M' Q' t') where
-    old-met : (i : ℕ) → i < t → getD M' (getD Q i 0) 0 ≡ getD M (getD Q i 0) 0
+      {M' Q' : List ℕ} {tail' : ℕ}
+      (g : Grown S L (getD Q head 0) (getD S (getD Q head 0 + 1) 0) (mark + 1) M Q tail M' Q' tail') where
+    old-met : (i : ℕ) → i < tail → getD M' (getD Q i 0) 0 ≡ getD M (getD Q i 0) 0
     old-met i p = g .old (getD Q i 0) (b .line .is .marked i p)
 
     -- a frame of the new queue is an old one, or one that this frame met
-    along {ℓ} : {C : Type ℓ} (i : ℕ) → i < t'
-        → (i < t → getD Q' i 0 ≡ getD Q i 0 → getD M' (getD Q' i 0) 0 ≡ getD M (getD Q i 0) 0 → C)
-        → (t ≤ i → getD M' (getD Q' i 0) 0 ≡ x + 1 → Link S L ones (getD Q h 0) (getD Q' i 0) 1 → C) → C
+    along {ℓ} : {C : Type ℓ} (i : ℕ) → i < tail'
+        → (i < tail → getD Q' i 0 ≡ getD Q i 0 → getD M' (getD Q' i 0) 0 ≡ getD M (getD Q i 0) 0 → C)
+        → (tail ≤ i → getD M' (getD Q' i 0) 0 ≡ mark + 1 → Link S L ones (getD Q head 0) (getD Q' i 0) 1 → C) → C
     along i p old new =
-        lt-or-ge i t
+        lt-or-ge i tail
         (λ l. old l (g .front i l) (ap (λ (k : ℕ). getD M' k 0) (g .front i l) ∙ old-met i l))
         (λ l.
         let (e, k) = g .new (getD Q' i 0) (g .fresh i l p) (g .line .is .marked i p) in
         new l e k)
 
     -- the level of this frame
-    own : levelAt M (getD Q h 0) ≡ x
-    own = omega (arith, is, b .plain h (omega arith) more)
+    own : metAt M (getD Q head 0) ≡ mark
+    own = omega (arith, is, b .plain head (omega arith) more)
 
-    few : x + 1 ≤ 4097
-    few = omega (arith, own, b .short h more, b .line .is .few, b .long)
+    few : mark + 1 ≤ 4097
+    few = omega (arith, own, b .short head more, b .line .is .few, b .long)
 
-    level-of : (v : ℕ) → 0 < getD M v 0 → levelAt M' v ≡ levelAt M v
+    level-of : (v : ℕ) → 0 < getD M v 0 → metAt M' v ≡ metAt M v
     level-of v m = ap (λ (k : ℕ). k % 65536) (g .old v m)
 
-    kept-carried : Carried M Q h M' Q'
+    kept-carried : Carried M Q head M' Q'
     kept-carried =
         record {
           same = λ i p. old-met i (omega arith);
@@ -53,35 +53,35 @@ module _ {n : ℕ} {S L : List ℕ} {drop : ℕ → ℕ → Bool} {hub : ℕ} {M
           front = λ i p. g .front i (omega arith);
         }
 
-    this : getD Q' h 0 ≡ getD Q h 0
-    this = g .front h more
+    this : getD Q' head 0 ≡ getD Q head 0
+    this = g .front head more
 
     -- a neighbour is met, and at most one level on
-    met-next : (v : ℕ) → Link S L ones (getD Q h 0) v 1 → 0 < getD M' v 0
+    met-next : (v : ℕ) → Link S L ones (getD Q head 0) v 1 → 0 < getD M' v 0
     met-next v l = rw (l .holds) at (g .all (l .at) (l .from) (l .upto))
 
-    level-next : (v : ℕ) → v < n → 0 < getD M' v 0 → levelAt M' v ≤ x + 1
+    level-next : (v : ℕ) → v < n → 0 < getD M' v 0 → metAt M' v ≤ mark + 1
     level-next v p m =
         lt-or-ge 0 (getD M v 0)
         (λ o.
         let (i, l, q) = b .line .is .all v (omega (arith, b .long)) o in
-        let e : levelAt M (getD Q i 0) ≡ levelAt M v = ap (levelAt M) q in
+        let e : metAt M (getD Q i 0) ≡ metAt M v = ap (metAt M) q in
         omega (arith, level-of v o, b .near i more l, own))
         (λ z.
         let (e, k) = g .new v (omega arith) m in
         omega (arith, few))
 
-    own-kept : ((v : ℕ) → Link S L ones (getD Q h 0) v 1 → v < n) → Kept S L drop M' (getD Q h 0)
+    own-kept : ((v : ℕ) → Link S L ones (getD Q head 0) v 1 → v < n) → Kept S L drop M' (getD Q head 0)
     own-kept low =
-        let lev : levelAt M' (getD Q h 0) ≡ x = level-of (getD Q h 0) (b .line .is .marked h more) ∙ own in
+        let lev : metAt M' (getD Q head 0) ≡ mark = level-of (getD Q head 0) (b .line .is .marked head more) ∙ own in
         record {
-          plain = omega (arith, old-met h more, is, few);
-          free = ap (λ (l : ℕ). drop (getD Q h 0) (l - 1)) lev ∙ sym says ∙ free;
+          plain = omega (arith, old-met head more, is, few);
+          free = ap (λ (l : ℕ). drop (getD Q head 0) (l - 1)) lev ∙ sym says ∙ free;
           met-all = met-next;
           next = λ v l. omega (arith, level-next v (low v l) (met-next v l));
         }
 
-    pub bfs-keep : ((v : ℕ) → Link S L ones (getD Q h 0) v 1 → v < n) → Bfs n S L drop hub M' Q' (h + 1) t'
+    pub bfs-keep : ((v : ℕ) → Link S L ones (getD Q head 0) v 1 → v < n) → Bfs n S L drop hub M' Q' (head + 1) tail'
     bfs-keep low =
         record {
           long = g .long ∙ b .long;
@@ -100,9 +100,9 @@ module _ {n : ℕ} {S L : List ℕ} {drop : ℕ → ℕ → Bool} {hub : ℕ} {M
               (λ l' r' e'. omega (arith, b .near i more l', own, few))
               (λ l' e' k'. omega arith));
           near = λ j p q.
-              along (h + 1) p
+              along (head + 1) p
               (λ l r e.
-              let up = b .rise h (h + 1) (omega arith) l in
+              let up = b .rise head (head + 1) (omega arith) l in
               along j q
               (λ l' r' e'. omega (arith, b .near j more l', own))
               (λ l' e' k'. omega (arith, own, few)))
@@ -113,7 +113,7 @@ module _ {n : ℕ} {S L : List ℕ} {drop : ℕ → ℕ → Bool} {hub : ℕ} {M
           short = λ j p.
               along j p
               (λ l q e. omega (arith, b .short j l))
-              (λ l e k. omega (arith, own, few, b .short h more));
+              (λ l e k. omega (arith, own, few, b .short head more));
           plain = λ j p q.
               along j q
               (λ l r e. omega (arith, b .plain j (omega arith) l))
@@ -127,14 +127,14 @@ module _ {n : ℕ} {S L : List ℕ} {drop : ℕ → ℕ → Bool} {hub : ℕ} {M
               (λ l e k.
               inr
               (record {
-                place = h;
+                place = head;
                 before = omega arith;
                 link = rw this k;
-                kept = rw this (omega (arith, old-met h more, is, few));
-                level = rw this (omega (arith, level-of (getD Q h 0) (b .line .is .marked h more), own, few));
+                kept = rw this (omega (arith, old-met head more, is, few));
+                level = rw this (omega (arith, level-of (getD Q head 0) (b .line .is .marked head more), own, few));
               }));
           done = λ i p.
-              by-cases (ℕ-discrete i h)
-              (λ (q : i ≡ h). rw (q, this) (inl (own-kept low)))
+              by-cases (ℕ-discrete i head)
+              (λ (q : i ≡ head). rw (q, this) (inl (own-kept low)))
               (λ q. done-stays kept-carried i (omega arith) (b .done i (omega arith)));
         }

@@ -30,42 +30,42 @@ filled-set (y ∷ ys) (suc v) x h = omega (arith, filled-set ys v x (omega arith
 
 -- ---- a frame that is not met goes behind the queue
 
-module _ {M Q : List ℕ} {t : ℕ} (line : Queue M Q t) where
-  pub room : (v : ℕ) → v < length M → getD M v 0 ≡ 0 → t < length M
+module _ {M Q : List ℕ} {tail : ℕ} (line : Queue M Q tail) where
+  pub room : (v : ℕ) → v < length M → getD M v 0 ≡ 0 → tail < length M
   room v h e = omega (arith, filled-room M v h e, line .count)
 
-  module _ (v x : ℕ) (h : v < length M) (e : getD M v 0 ≡ 0) (some : 0 < x) where
-    new-met : getD (set M v x) v 0 ≡ x
-    new-met = getD-set-same M v x 0 h
+  module _ (v mark : ℕ) (h : v < length M) (e : getD M v 0 ≡ 0) (some : 0 < mark) where
+    new-met : getD (set M v mark) v 0 ≡ mark
+    new-met = getD-set-same M v mark 0 h
 
-    old-met : (u : ℕ) → 0 < getD M u 0 → getD (set M v x) u 0 ≡ getD M u 0
-    old-met u p = getD-set-other M v u x 0 (λ q. omega (arith, ap (λ (k : ℕ). getD M k 0) q))
+    old-met : (u : ℕ) → 0 < getD M u 0 → getD (set M v mark) u 0 ≡ getD M u 0
+    old-met u p = getD-set-other M v u mark 0 (λ q. omega (arith, ap (λ (k : ℕ). getD M k 0) q))
 
-    last-place : getD (set Q t v) t 0 ≡ v
-    last-place = getD-set-same Q t v 0 (omega (arith, room v h e, line .is .long))
+    last-place : getD (set Q tail v) tail 0 ≡ v
+    last-place = getD-set-same Q tail v 0 (omega (arith, room v h e, line .is .long))
 
-    old-place : (i : ℕ) → (i ≡ t → ⊥) → getD (set Q t v) i 0 ≡ getD Q i 0
-    old-place i p = getD-set-other Q t i v 0 p
+    old-place : (i : ℕ) → (i ≡ tail → ⊥) → getD (set Q tail v) i 0 ≡ getD Q i 0
+    old-place i p = getD-set-other Q tail i v 0 p
 
     -- every place but the new one holds a frame that was met
-    old-frame : (i : ℕ) → i < t → getD Q i 0 ≡ v → ⊥
+    old-frame : (i : ℕ) → i < tail → getD Q i 0 ≡ v → ⊥
     old-frame i p q = omega (arith, line .is .marked i p, ap (λ (k : ℕ). getD M k 0) q)
 
     -- what holds of every old frame and of the new one holds along the new queue
-    along {ℓ} : {C : Type ℓ} (i : ℕ) → i < t + 1
-        → (i < t → getD (set Q t v) i 0 ≡ getD Q i 0 → C)
-        → (i ≡ t → getD (set Q t v) i 0 ≡ v → C) → C
+    along {ℓ} : {C : Type ℓ} (i : ℕ) → i < tail + 1
+        → (i < tail → getD (set Q tail v) i 0 ≡ getD Q i 0 → C)
+        → (i ≡ tail → getD (set Q tail v) i 0 ≡ v → C) → C
     along i p old new =
-        by-cases (ℕ-discrete i t)
-        (λ q. new q (ap (λ (k : ℕ). getD (set Q t v) k 0) q ∙ last-place))
+        by-cases (ℕ-discrete i tail)
+        (λ q. new q (ap (λ (k : ℕ). getD (set Q tail v) k 0) q ∙ last-place))
         (λ q. old (omega arith) (old-place i q))
 
-    pub push : Queue (set M v x) (set Q t v) (t + 1)
+    pub push : Queue (set M v mark) (set Q tail v) (tail + 1)
     push =
-        let long : length (set M v x) ≡ length M = length-set M v x in
+        let long : length (set M v mark) ≡ length M = length-set M v mark in
         record {
           is = record {
-            long = length-set Q t v ∙ line .is .long ∙ sym long;
+            long = length-set Q tail v ∙ line .is .long ∙ sym long;
             few = omega (arith, room v h e);
             low = λ i p.
                 along i p
@@ -75,11 +75,11 @@ module _ {M Q : List ℕ} {t : ℕ} (line : Queue M Q t) where
                 along i p
                 (λ l q.
                 let was = line .is .marked i l in
-                omega (arith, old-met (getD Q i 0) was, ap (λ (k : ℕ). getD (set M v x) k 0) q))
-                (λ l q. omega (arith, new-met, ap (λ (k : ℕ). getD (set M v x) k 0) q));
+                omega (arith, old-met (getD Q i 0) was, ap (λ (k : ℕ). getD (set M v mark) k 0) q))
+                (λ l q. omega (arith, new-met, ap (λ (k : ℕ). getD (set M v mark) k 0) q));
             all = λ u p m.
-                cases (set-cases M v u x 0 h)
-                (λ s. (t, omega arith, last-place ∙ sym (s .0)))
+                cases (set-cases M v u mark 0 h)
+                (λ s. (tail, omega arith, last-place ∙ sym (s .0)))
                 (λ s.
                 let (i, l, q) = line .is .all u (omega arith) (omega (arith, s .1)) in
                 (i, omega arith, old-place i (λ z. omega arith) ∙ q));
@@ -92,5 +92,5 @@ module _ {M Q : List ℕ} {t : ℕ} (line : Queue M Q t) where
                 (λ l a. omega arith);
             rest = λ i p. old-place i (λ z. omega arith) ∙ line .is .rest i (omega arith);
           };
-          count = omega (arith, filled-set M v x h, line .count);
+          count = omega (arith, filled-set M v mark h, line .count);
         }

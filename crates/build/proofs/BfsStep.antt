@@ -1,4 +1,4 @@
--- One frame of the walk, the one at place h of the queue. Whether it is dropped or kept, what was done before it stays
+-- One frame of the walk, the one at place `head` of the queue. Whether it is dropped or kept, what was done before it stays
 -- done, and its level is below n.
 use Prim.Native.Nat.{ℕ, _+_, _-_, _%_, _≤_, _<_}
 use mathlib.Core.Path.{_≡_, sym, ap, _∙_}
@@ -8,23 +8,23 @@ use mathlib.Core.List.{List}
 use native.Mathlib.Omega.{arith}
 use lib.ListN.{getD}
 use Rattle.basics.proofs.Laws.{cases, three-ways}
-use Rattle.build.specs.Explore.{Bfs, Kept, Dropped, Parent, levelAt}
+use Rattle.build.specs.Explore.{Bfs, StepIn, drops, Kept, Dropped, Parent, metAt}
 
 -- ---- what is done stays done
 
--- met frames stay met at their levels, and the first h places of the queue and what is held for them stay
-pub record Carried (M Q : List ℕ) (h : ℕ) (M' Q' : List ℕ) : Type 0 where
-  pub same : (i : ℕ) → i < h → getD M' (getD Q i 0) 0 ≡ getD M (getD Q i 0) 0
+-- met frames stay met at their levels, and the first `head` places of the queue and what is held for them stay
+pub record Carried (M Q : List ℕ) (head : ℕ) (M' Q' : List ℕ) : Type 0 where
+  pub same : (i : ℕ) → i < head → getD M' (getD Q i 0) 0 ≡ getD M (getD Q i 0) 0
   pub stay : (v : ℕ) → 0 < getD M v 0 → 0 < getD M' v 0
-  pub level : (v : ℕ) → 0 < getD M v 0 → levelAt M' v ≡ levelAt M v
-  pub front : (i : ℕ) → i < h → getD Q' i 0 ≡ getD Q i 0
+  pub level : (v : ℕ) → 0 < getD M v 0 → metAt M' v ≡ metAt M v
+  pub front : (i : ℕ) → i < head → getD Q' i 0 ≡ getD Q i 0
 
-pub done-stays : {S L : List ℕ} {drop : ℕ → ℕ → Bool} {M Q : List ℕ} {h : ℕ} {M' Q' : List ℕ} → Carried M Q h M' Q'
-    → (i : ℕ) → i < h → Kept S L drop M (getD Q i 0) ⊎ Dropped drop M (getD Q i 0)
+pub done-stays : {S L : List ℕ} {drop : ℕ → ℕ → Bool} {M Q : List ℕ} {head : ℕ} {M' Q' : List ℕ} → Carried M Q head M' Q'
+    → (i : ℕ) → i < head → Kept S L drop M (getD Q i 0) ⊎ Dropped drop M (getD Q i 0)
     → Kept S L drop M' (getD Q' i 0) ⊎ Dropped drop M' (getD Q' i 0)
-done-stays {drop = drop} {M} {Q} {h} {M'} c i p was =
+done-stays {drop = drop} {M} {Q} {head} {M'} c i p was =
     let s = c .same i p in
-    let lev : levelAt M' (getD Q i 0) ≡ levelAt M (getD Q i 0) = ap (λ (k : ℕ). k % 65536) s in
+    let lev : metAt M' (getD Q i 0) ≡ metAt M (getD Q i 0) = ap (λ (k : ℕ). k % 65536) s in
     rw (c .front i p)
     (cases was
     (λ k.
@@ -39,8 +39,8 @@ done-stays {drop = drop} {M} {Q} {h} {M'} c i p was =
     inr
     (record { marked = omega (arith, d .marked); found = ap (λ (l : ℕ). drop (getD Q i 0) (l - 1)) lev ∙ d .found })))
 
-pub parent-stays : {S L M Q : List ℕ} {h : ℕ} {M' Q' : List ℕ} → Carried M Q h M' Q' → (v : ℕ) → 0 < getD M v 0
-    → Parent S L M Q h v → Parent S L M' Q' (h + 1) v
+pub parent-stays : {S L M Q : List ℕ} {head : ℕ} {M' Q' : List ℕ} → Carried M Q head M' Q' → (v : ℕ) → 0 < getD M v 0
+    → Parent S L M Q head v → Parent S L M' Q' (head + 1) v
 parent-stays c v m p =
     let f = c .front (p .place) (p .before) in
     let s = c .same (p .place) (p .before) in
@@ -52,22 +52,27 @@ parent-stays c v m p =
       level = rw f (omega (arith, p .level, c .level v m));
     }
 
-module _ {n : ℕ} {S L : List ℕ} {drop : ℕ → ℕ → Bool} {hub : ℕ} {M Q : List ℕ} {h t : ℕ}
-    (b : Bfs n S L drop hub M Q h t) (more : h < t) where
+module _ {n : ℕ} {S L : List ℕ} {drop : ℕ → ℕ → Bool} {hub : ℕ} {M Q : List ℕ} {head tail : ℕ}
+    (b : Bfs n S L drop hub M Q head tail) (more : head < tail) where
   -- another place of the queue holds another frame
-  pub apart : (i : ℕ) → i < t → (i ≡ h → ⊥) → getD Q i 0 ≡ getD Q h 0 → ⊥
+  pub apart : (i : ℕ) → i < tail → (i ≡ head → ⊥) → getD Q i 0 ≡ getD Q head 0 → ⊥
   apart i p q e =
-      three-ways i h
-      (λ l. b .line .is .once i h l more e)
+      three-ways i head
+      (λ l. b .line .is .once i head l more e)
       (λ l. q l)
-      (λ l. b .line .is .once h i l p (sym e))
+      (λ l. b .line .is .once head i l p (sym e))
 
-  -- the frame at h is met, not marked, and its level is below n
-  pub head-in : getD Q h 0 < n
-  head-in = omega (arith, b .line .is .low h more, b .long)
+-- the frame at the head is met, not marked, and its level is below n
+module _ {n w : ℕ} {S L labels counts noted M Q : List ℕ} {head tail : ℕ}
+    (s : StepIn n w S L labels counts noted M Q head tail) where
+  b : Bfs n S L (drops w labels counts noted) (getD Q 0 0) M Q head tail
+  b = s .so-far
 
-  pub head-met : 1 ≤ getD M (getD Q h 0) 0
-  head-met = b .line .is .marked h more
+  pub head-in : getD Q head 0 < n
+  head-in = omega (arith, b .line .is .low head (s .more), b .long)
 
-  pub head-low : getD M (getD Q h 0) 0 ≤ n
-  head-low = omega (arith, b .plain h (omega arith) more, b .short h more, b .line .is .few, b .long)
+  pub head-met : 1 ≤ getD M (getD Q head 0) 0
+  head-met = b .line .is .marked head (s .more)
+
+  pub head-low : getD M (getD Q head 0) 0 ≤ n
+  head-low = omega (arith, b .plain head (omega arith) (s .more), b .short head (s .more), b .line .is .few, b .long)

@@ -37,12 +37,7 @@ module _ {n w k : ℕ} {S L O labels counts met queue : List ℕ} (i : MakeIn n 
       let long : length counts′ ≡ n = ap length c ∙ length-replicate (length counts) 0 ∙ i .counts-long in
       rw long
       (record {
-        frames = i .frames;
-        wide = i .wide;
-        width = i .width;
-        stop = i .stop;
-        block = i .block;
-        order = i .order;
+        given = i .given;
         labels-zero = l ∙ ap (λ (j : ℕ). replicate j 0) (i .labels-long);
         counts-zero = c ∙ ap (λ (j : ℕ). replicate j 0) (i .counts-long);
         met-zero = m ∙ ap (λ (j : ℕ). replicate j 0) (i .met-long);
@@ -101,12 +96,7 @@ module _ (n w k : ℕ) (S L O labels counts met queue : List ℕ) where
         let p = passed in
         rw counts-are
         (record {
-          frames = p .sizes-fit .fit .frames;
-          wide = p .sizes-fit .fit .some-width;
-          width = p .sizes-fit .fit .width;
-          stop = p .sizes-fit .stop;
-          block = p .block;
-          order = p .order;
+          given = record { sizes = p .sizes-fit .fit; stop = p .sizes-fit .stop; block = p .block; order = p .order };
           labels-long = p .rooms-fit .labels-long;
           counts-long = p .rooms-fit .counts-long;
           met-long = p .rooms-fit .met-long;

@@ -8,24 +8,25 @@ use lib.ListN.{length}
 use lib.Dec.{leb, eqb}
 use Rattle.basics.proofs.Laws.{both-true}
 use Rattle.refusal.specs.Numbers.{SIZE, LENGTH}
+use Rattle.refusal.specs.Sizes.{sizesFit, placesFit, Sizes}
 use Rattle.refusal.specs.Tests.{test, _then_, refusal}
 use Rattle.refusal.specs.declared.Refusal.{Refusal}
 use Rattle.refusal.specs.declared.Verdict.{Verdict}
 use Rattle.refusal.specs.declared.Verdict.the-variants.{Fine, Refused}
 use Rattle.refusal.proofs.Laws.{test-fine, test-refused, test-held, after-fine, after-refused, then-fine, then-assoc}
+use Rattle.refusal.proofs.SizeLaws.{sizes-held, places-held}
 use Rattle.theory.specs.Links.{Block, Order}
 use Rattle.theory.specs.Plain.{ones}
-use Rattle.links.specs.Links.{placesFit, startsTest, listsTest, checkLinks}
+use Rattle.links.specs.Links.{startsTest, listsTest, checkLinks}
 use Rattle.links.specs.Order.{orderTest, checkOrder}
+use Rattle.links.specs.Inner.{Fits}
 use Rattle.links.proofs.Links.{links-alone, links-sound}
 use Rattle.links.proofs.Order.{order-alone, order-sound}
-use Rattle.rows.specs.Rooms.{sizesFit}
-use Rattle.rows.proofs.RoomLaws as room-laws
 use Rattle.build.specs.Build.{buildSizes, buildRooms, buildTests}
 
 -- test 1 passed
-pub record Sizes (n w k places : ℕ) : Type 0 where
-  pub fit : room-laws.Sizes n w
+pub record InRange (n w k places : ℕ) : Type 0 where
+  pub fit : Sizes n w
   pub stop : k ≤ n
   pub most : places ≤ 65536
 
@@ -38,15 +39,15 @@ pub record Lengths (n w starts order labels counts met queue : ℕ) : Type 0 whe
   pub met-long : met ≡ n
   pub queue-long : queue ≡ n
 
-pub sizes-hold : (n w k places : ℕ) → buildSizes n w k places ≡ true → Sizes n w k places
-unfolding buildSizes placesFit
+pub sizes-hold : (n w k places : ℕ) → buildSizes n w k places ≡ true → InRange n w k places
+unfolding buildSizes
 sizes-hold n w k places e =
-    let halves = both-true (sizesFit n w) (leb k n && leb places 65536) e in
-    let rest = both-true (leb k n) (leb places 65536) (halves .1) in
+    let halves = both-true (sizesFit n w) (leb k n && placesFit places) e in
+    let rest = both-true (leb k n) (placesFit places) (halves .1) in
     record {
-      fit = room-laws.sizes-held n w (halves .0);
+      fit = sizes-held n w (halves .0);
       stop = leb-true k n (rest .0);
-      most = leb-true places 65536 (rest .1);
+      most = places-held places (rest .1);
     }
 
 pub rooms-hold : (n w starts order labels counts met queue : ℕ) → buildRooms n w starts order labels counts met queue ≡ true
@@ -67,6 +68,11 @@ rooms-hold n w starts order labels counts met queue e =
       queue-long = eqb-true queue n (g .1);
     }
 
+-- sizes and lengths of the links
+links-fit : {n w k order labels counts met queue : ℕ} {S L : List ℕ} → InRange n w k (length L)
+    → Lengths n w (length S) order labels counts met queue → Fits n S L
+links-fit s l = record { one = s .fit .some-frames; frames = s .fit .frames; places = s .most; long = l .starts-long }
+
 module _ (n w k : ℕ) (S L O : List ℕ) (labels counts met queue : ℕ) where
   pub tests-size : buildSizes n w k (length L) ≡ false → buildTests n w k S L O labels counts met queue ≡ Refused (refusal SIZE 0)
   unfolding buildTests
@@ -79,14 +85,14 @@ module _ (n w k : ℕ) (S L O : List ℕ) (labels counts met queue : ℕ) where
     tests-length e = after-fine _ (test-fine SIZE 0 sized) ∙ after-refused _ (test-refused LENGTH 0 e)
 
     module _ (long : buildRooms n w (length S) (length O) labels counts met queue ≡ true) where
-      sizes : Sizes n w k (length L)
+      sizes : InRange n w k (length L)
       sizes = sizes-hold n w k (length L) sized
 
       rooms : Lengths n w (length S) (length O) labels counts met queue
       rooms = rooms-hold n w (length S) (length O) labels counts met queue long
 
       links-are : checkLinks n S L ≡ (startsTest n S L then listsTest n S L)
-      links-are = links-alone n S L (sizes .fit .some-frames) (sizes .fit .frames) (sizes .most) (rooms .starts-long)
+      links-are = links-alone n S L (links-fit sizes rooms)
 
       rest : buildTests n w k S L O labels counts met queue ≡ (checkLinks n S L then orderTest n O)
       unfolding buildTests
@@ -107,7 +113,7 @@ module _ (n w k : ℕ) (S L O : List ℕ) (labels counts met queue : ℕ) where
 
   -- all passed
   pub record Passed : Type 0 where
-    pub sizes-fit : Sizes n w k (length L)
+    pub sizes-fit : InRange n w k (length L)
     pub rooms-fit : Lengths n w (length S) (length O) labels counts met queue
     pub block : Block n 1 S L ones
     pub order : Order n O
@@ -119,12 +125,12 @@ module _ (n w k : ℕ) (S L O : List ℕ) (labels counts met queue : ℕ) where
       let b = then-fine (test (buildRooms n w (length S) (length O) labels counts met queue) LENGTH 0) _ (a .1) in
       let d = then-fine (startsTest n S L) _ (b .1) in
       let f = then-fine (listsTest n S L) (orderTest n O) (d .1) in
-      let s : Sizes n w k (length L) = sizes-hold n w k (length L) (test-held _ SIZE 0 (a .0)) in
+      let s : InRange n w k (length L) = sizes-hold n w k (length L) (test-held _ SIZE 0 (a .0)) in
       let l : Lengths n w (length S) (length O) labels counts met queue =
       rooms-hold n w (length S) (length O) labels counts met queue (test-held _ LENGTH 0 (b .0)) in
       record {
         sizes-fit = s;
         rooms-fit = l;
-        block = links-sound n S L (d .0) (f .0) (s .fit .some-frames) (s .fit .frames) (s .most) (l .starts-long);
+        block = links-sound n S L (links-fit s l) (d .0) (f .0);
         order = order-sound n O (f .1) (l .order-long);
       }

@@ -15,32 +15,20 @@ use borrow.Author.Tests.{eq-eqb, ne-eqb, eqb-true, eqb-false}
 use Rattle.basics.proofs.Laws.{bcase, by-cases, cases, not-both, cond-true, cond-false, either-true, either-false, neither}
 use Rattle.theory.specs.Rows.{at}
 use Rattle.rows.specs.Entry.{rankOf, joinsOf, decode}
-use Rattle.build.specs.Explore.{notedBy, forgotten}
+use Rattle.build.specs.Explore.{noteOf, notedBy}
 
--- ---- one turn of the loops
-
-pub note-on : (row noted : List ℕ) (i : ℕ) → i < length row
-    → notedBy (drop i row) noted
-    ≡ notedBy (drop (i + 1) row) (set noted (rankOf (getD row i 0)) (joinsOf (getD row i 0)))
+-- one turn of the loop
+pub note-on : (forget : Bool) (row noted : List ℕ) (i : ℕ) → i < length row
+    → notedBy forget (drop i row) noted
+    ≡ notedBy forget (drop (i + 1) row) (set noted (rankOf (getD row i 0)) (noteOf forget (getD row i 0)))
 unfolding notedBy
-note-on row noted i h = rw (add-one i, drop-cons row i 0 h)
+note-on forget row noted i h = rw (add-one i, drop-cons row i 0 h)
 
-pub forget-on : (row noted : List ℕ) (i : ℕ) → i < length row
-    → forgotten (drop i row) noted ≡ forgotten (drop (i + 1) row) (set noted (rankOf (getD row i 0)) 65536)
-unfolding forgotten
-forget-on row noted i h = rw (add-one i, drop-cons row i 0 h)
-
--- ---- lengths
-
-pub note-long : (row noted : List ℕ) → length (notedBy row noted) ≡ length noted
+pub note-long : (forget : Bool) (row noted : List ℕ) → length (notedBy forget row noted) ≡ length noted
 unfolding notedBy
-note-long [] noted = refl
-note-long (e ∷ es) noted = note-long es (set noted (rankOf e) (joinsOf e)) ∙ length-set noted (rankOf e) (joinsOf e)
-
-pub forget-long : (row noted : List ℕ) → length (forgotten row noted) ≡ length noted
-unfolding forgotten
-forget-long [] noted = refl
-forget-long (e ∷ es) noted = forget-long es (set noted (rankOf e) 65536) ∙ length-set noted (rankOf e) 65536
+note-long forget [] noted = refl
+note-long forget (e ∷ es) noted =
+    note-long forget es (set noted (rankOf e) (noteOf forget e)) ∙ length-set noted (rankOf e) (noteOf forget e)
 
 -- ---- which ranks a row has
 
@@ -49,8 +37,8 @@ hasRank [] r = false
 hasRank (e ∷ es) r = eqb (rankOf e) r || hasRank es r
 
 -- a rank that the row lacks keeps its note
-note-other : (row noted : List ℕ) (r : ℕ) → hasRank row r ≡ false → getD (notedBy row noted) r 0 ≡ getD noted r 0
-unfolding notedBy hasRank
+note-other : (row noted : List ℕ) (r : ℕ) → hasRank row r ≡ false → getD (notedBy false row noted) r 0 ≡ getD noted r 0
+unfolding notedBy noteOf hasRank
 note-other [] noted r h = refl
 note-other (e ∷ es) noted r h =
     let (one, rest) = either-false (eqb (rankOf e) r) (hasRank es r) h in
@@ -59,8 +47,8 @@ note-other (e ∷ es) noted r h =
 
 -- where each rank has 65,536 or stands in the row, forgetting leaves 65,536
 forget-all : (row noted : List ℕ) (r : ℕ) → r < length noted → (getD noted r 0 ≡ 65536) ⊎ (hasRank row r ≡ true)
-    → getD (forgotten row noted) r 0 ≡ 65536
-unfolding forgotten hasRank
+    → getD (notedBy true row noted) r 0 ≡ 65536
+unfolding notedBy noteOf hasRank
 forget-all [] noted r h was = cases was (λ e. e) (λ e. not-both e refl)
 forget-all (e ∷ es) noted r h was =
     forget-all es (set noted (rankOf e) 65536) r (omega (arith, length-set noted (rankOf e) 65536))
@@ -76,16 +64,15 @@ forget-all (e ∷ es) noted r h was =
     (λ rest. inr rest))))
 
 -- noting a row and forgetting it brings the table back
-pub note-forget : (row : List ℕ) (m : ℕ) → forgotten row (notedBy row (replicate m 65536)) ≡ replicate m 65536
+pub note-forget : (row : List ℕ) (m : ℕ) → notedBy true row (notedBy false row (replicate m 65536)) ≡ replicate m 65536
 note-forget row m =
     let far : List ℕ = replicate m 65536 in
-    let long : length (forgotten row (notedBy row far)) ≡ length far =
-    forget-long row (notedBy row far) ∙ note-long row far in
-    ext-getD 0 (forgotten row (notedBy row far)) far long
+    let noted : List ℕ = notedBy false row far in
+    ext-getD 0 (notedBy true row noted) far (note-long true row noted ∙ note-long false row far)
     (λ r h.
-    let inside : r < m = omega (arith, length-replicate {A = ℕ} m 65536) in
+    let inside : r < m = omega (arith, note-long true row noted, note-long false row far, length-replicate {A = ℕ} m 65536) in
     let given : getD far r 0 ≡ 65536 = getD-replicate m r 65536 0 inside in
-    forget-all row (notedBy row far) r (omega (arith, note-long row far))
+    forget-all row noted r (omega (arith, note-long true row noted))
     (bcase (hasRank row r) inr (λ out. inl (note-other row far r out ∙ given)))
     ∙ sym given)
 
@@ -110,8 +97,8 @@ above (e ∷ es) r up =
 -- of a row with rising ranks, over a table that has 65,536 for the rank
 pub notes-at : (B : ℕ) (row noted : List ℕ) (r : ℕ) → B ≤ 65536 → r < length noted → getD noted r 0 ≡ 65536
     → ((i j : ℕ) → i < j → j < length row → rankOf (getD row i 0) < rankOf (getD row j 0))
-    → at B (decode row) r ≡ min B (getD (notedBy row noted) r 0)
-unfolding notedBy at decode
+    → at B (decode row) r ≡ min B (getD (notedBy false row noted) r 0)
+unfolding notedBy noteOf at decode
 notes-at B [] noted r b h far up = omega arith
 notes-at B (e ∷ es) noted r b h far up =
     let next : List ℕ = set noted (rankOf e) (joinsOf e) in

@@ -1,19 +1,21 @@
 -- The drop test of a frame: it holds exactly if the answer for the hub and the frame is at most the level.
 use Prim.Native.Nat.{ℕ, zero, suc, _+_, _-_, _≤_, _<_, min}
-use mathlib.Core.Path.{_≡_, refl, ap}
-use mathlib.Core.Bool.{Bool, true, false, cond}
-use mathlib.Core.List.{List, [], _∷_}
+use mathlib.Core.Path.{_≡_, sym, ap, _∙_}
+use mathlib.Core.Bool.{Bool, true, false}
+use mathlib.Core.List.{List}
 use native.Mathlib.Nat.{sub-zero}
 use native.Mathlib.Numerals.{add-one}
 use native.Mathlib.Omega.{arith}
 use lib.ListN.{length, getD}
-use native.Mathlib.Decide.{ℕ-discrete}
-use lib.Dec.{leb, eqb}
-use borrow.Author.Tests.{le-leb, lt-leb, leb-true, eq-eqb, ne-eqb}
+use lib.Dec.{leb}
+use borrow.Author.Tests.{le-leb, lt-leb, leb-true}
 use Rattle.basics.specs.Places.{some, least}
-use Rattle.basics.proofs.Laws.{by-cases, less-one, lt-or-ge, same-truth, cond-true, cond-false, least-le, least-found, some-hit, some-miss, some-end, some-one, some-found}
+use Rattle.basics.proofs.Laws.{less-one, same-truth, least-le, least-found, some-hit, some-miss, some-end, some-one, some-found}
 use Rattle.theory.specs.Rows.{Row, at, answer}
+use Rattle.theory.proofs.Rule.{place-in, in-place}
+use Rattle.theory.proofs.Answer.{at-le, at-in}
 use Rattle.rows.specs.Entry.{rankOf, joinsOf, decode}
+use Rattle.rows.proofs.Laws.{length-decode, getD-decode}
 use Rattle.build.specs.Explore.{within}
 
 -- the sum that entry i of a row gives with the notes
@@ -55,38 +57,19 @@ within-end noted row level i h =
 
 -- ---- the row's joins for a rank
 
-at-most : (B : ℕ) (row : List ℕ) (r : ℕ) → at B (decode row) r ≤ B
-unfolding at decode
-at-most B [] r = omega arith
-at-most B (e ∷ es) r = omega (arith, at-most B es r)
-
--- an entry of rank r bounds them
-at-le : (B : ℕ) (row : List ℕ) (i : ℕ) → i < length row → at B (decode row) (rankOf (getD row i 0)) ≤ joinsOf (getD row i 0)
-unfolding at decode
-at-le B [] i h = absurd (omega arith)
-at-le B (e ∷ es) zero h =
-    let own = cond-true (joinsOf e) B (eq-eqb (rankOf e) (rankOf e) refl) in
-    omega (arith, own)
-at-le B (e ∷ es) (suc i) h = omega (arith, at-le B es i (omega arith))
+-- an entry of the rank bounds them
+at-entry : (B : ℕ) (row : List ℕ) (i : ℕ) → i < length row → at B (decode row) (rankOf (getD row i 0)) ≤ joinsOf (getD row i 0)
+at-entry B row i h =
+    at-le B (decode row) (rw (getD-decode row i h) at (place-in (decode row) i (omega (arith, length-decode row))))
 
 -- below B they are those of an entry
 at-found : (B : ℕ) (row : List ℕ) (r : ℕ) → at B (decode row) r < B
     → (i : ℕ) × (i < length row) × (rankOf (getD row i 0) ≡ r) × (joinsOf (getD row i 0) ≡ at B (decode row) r)
-unfolding at decode
-at-found B [] r h = absurd (omega arith)
-at-found B (e ∷ es) r h =
-    lt-or-ge (at B (decode es) r) (cond (eqb (rankOf e) r) (joinsOf e) B)
-    (λ l.
-    let (i, b, q, j) = at-found B es r (omega arith) in
-    (suc i, omega arith, q, omega arith))
-    (λ g.
-    by-cases (ℕ-discrete (rankOf e) r)
-    (λ (q : rankOf e ≡ r).
-    let own = cond-true (joinsOf e) B (eq-eqb (rankOf e) r q) in
-    (0, omega arith, q, omega (arith, own)))
-    (λ q.
-    let other = cond-false (joinsOf e) B (ne-eqb (rankOf e) r q) in
-    absurd (omega (arith, other))))
+at-found B row r h =
+    let (i, l, q, j) = in-place (decode row) (at-in B (decode row) r h) in
+    let inside : i < length row = omega (arith, length-decode row) in
+    let entry = sym (getD-decode row i inside) in
+    (i, inside, ap (λ (z : ℕ × ℕ). z .0) entry ∙ q, ap (λ (z : ℕ × ℕ). z .1) entry ∙ j)
 
 -- the notes say what the hub's row has for a rank, as far as it matters below B
 abbrev pub Notes : ℕ → ℕ → Row → List ℕ → Type 0
@@ -106,7 +89,7 @@ within-answer B n own noted row level notes low small =
     let inside : i < length row = omega arith in
     let sum : sumAt noted row i ≤ level = leb-true (sumAt noted row i) level e in
     let b : r < n = low i inside in
-    le-leb (least B n sums) level (omega (arith, least-le B n sums r b, notes r b, at-le B row i inside)))
+    le-leb (least B n sums) level (omega (arith, least-le B n sums r b, notes r b, at-entry B row i inside)))
     (λ t.
     let low : least B n sums ≤ level = leb-true (least B n sums) level t in
     let (r, b, e) = least-found B n sums (omega arith) in

@@ -6,21 +6,35 @@ use mathlib.Core.Bool.{Bool, true, false, cond, _&&_, and-false}
 use mathlib.Core.List.{List, [], _∷_, _++_}
 use native.Mathlib.Decide.{ℕ-discrete}
 use native.Mathlib.Omega.{arith}
-use borrow.Author.Tests.{lt-ltb, le-ltb, ltb-true, leb-false, eq-eqb, ne-eqb, eqb-true}
+use borrow.Author.Tests.{lt-ltb, le-ltb, ltb-true, leb-false}
 use lib.ListN.{length, getD, set}
-use lib.Dec.{leb, ltb, eqb}
+use lib.Dec.{leb, ltb}
 use Rattle.basics.specs.Places.{some, stands}
-use Rattle.basics.proofs.Laws.{bcase, by-cases, lt-or-ge, not-both, both, both-true, of-not-true, not-of-true, not-of-false, same-truth, cond-true, cond-false, some-one, some-found, some-not, some-none, stands-at, stands-by}
+use Rattle.basics.proofs.Laws.{bcase, by-cases, lt-or-ge, not-both, both, both-true, of-not-true, not-of-true, not-of-false, cond-true, cond-false, some-one, some-not, some-none, stands-at, stands-by, stands-none, stands-other}
 use Rattle.theory.specs.Rows.{Row}
-use Rattle.links.proofs.Order.{stands-none, stands-other}
 use Rattle.rows.specs.Entry.{entryOf}
 use Rattle.build.specs.Build.{labelsOf, countsOf}
+use Rattle.build.specs.Walk.{rowsIn, mark}
 use Rattle.build.specs.Explore.{Queued}
-use Rattle.build.specs.Settle.{rowsIn, isKept, lacksRoom, isFar, fitsAll, noneFar, gain, rowsAfter, labelsAfter, countsAfter, SettleIn, settleOf}
+use Rattle.build.specs.Settle.{isKept, lacksRoom, isFar, fitsAll, noneFar, gain, rowsAfter, labelsAfter, countsAfter, SettleIn, settleOf}
 use Rattle.build.specs.declared.settle.Walked.the-variants.{Made, Full}
 use Rattle.build.proofs.RoomLaws.{labels-gain, counts-gain, labels-ext, counts-ext, count-at}
 
 -- ---- marks
+
+-- kept, dropped, not met
+module _ (most level answered : ℕ) where
+  pub mark-yes : level < most → level < answered → mark most level answered ≡ level + 1
+  unfolding mark
+  mark-yes h k = cond-true _ _ (lt-ltb level most h) ∙ cond-true _ _ (lt-ltb level answered k)
+
+  pub mark-drop : level < most → answered ≤ level → mark most level answered ≡ level + 1 + 65536
+  unfolding mark
+  mark-drop h k = cond-true _ _ (lt-ltb level most h) ∙ cond-false _ _ (le-ltb level answered k)
+
+  pub mark-none : most ≤ level → mark most level answered ≡ 0
+  unfolding mark
+  mark-none h = cond-false _ _ (le-ltb level most h)
 
 pub kept-mark : (m : ℕ) → 0 < m → m < 65536 → isKept m ≡ true
 unfolding isKept

@@ -2,50 +2,41 @@
 -- is stored are the rows after the walk.
 use Prim.Native.Nat.{ℕ, _+_, _-_, _≤_, _<_}
 use mathlib.Core.Path.{_≡_, refl, sym, ap, _∙_}
-use mathlib.Core.Bool.{Bool, cond, not, _&&_}
+use mathlib.Core.Bool.{Bool, not, _&&_}
 use mathlib.Core.List.{List, [], _∷_, _++_}
 use native.Mathlib.Omega.{arith}
 use borrow.Author.Tests.{lt-ltb, le-ltb, ltb-true}
 use lib.ListN.{length, getD, replicate}
 use lib.Dec.{leb, ltb}
-use Rattle.basics.proofs.Laws.{bcase, lt-or-ge, same-truth, cond-true, cond-false, some-ext, least-most, length-table, getD-table}
+use Rattle.basics.proofs.Laws.{bcase, lt-or-ge, same-truth, cond-true, cond-false, some-ext, length-table, getD-table}
 use Rattle.theory.specs.Distance.{far}
-use Rattle.theory.specs.Rows.{Row, answer, keep}
+use Rattle.theory.specs.Rows.{Row, keep}
 use Rattle.theory.specs.Walk.{walkRow}
 use Rattle.build.specs.Build.{labelsOf, countsOf}
-use Rattle.build.specs.Walk.{soFar, levelOf, kept, mark, metRoom, walkFits}
+use Rattle.build.specs.Walk.{rowsIn, soFar, levelOf, kept, mark, metRoom, walkFits}
 use Rattle.build.specs.Explore.{ExploreIn}
-use Rattle.build.specs.Settle.{rowsIn, isKept, lacksRoom, isFar, fitsAll, noneFar, gain, rowsAfter, settleOf, walkedRows, walkNear, walkOf, ifMade, WalkOut}
+use Rattle.build.specs.Settle.{isKept, lacksRoom, isFar, fitsAll, noneFar, gain, rowsAfter, decided, settleOf, walkedRows, walkNear, walkOf, ifMade, WalkOut}
 use Rattle.build.specs.declared.settle.Walked.{Walked}
-use Rattle.build.specs.declared.settle.Walked.the-variants.{Made, Full, Far}
+use Rattle.build.proofs.BfsWalk.{capped}
 use Rattle.build.proofs.RoomLaws.{labels-ext, counts-ext}
-use Rattle.build.proofs.RoomMarks.{kept-mark, unmet-mark, dropped-mark}
+use Rattle.build.proofs.RoomMarks.{mark-yes, mark-drop, mark-none, kept-mark, unmet-mark, dropped-mark}
 
 -- ---- one mark
 
 module _ (most level answered : ℕ) (few : most < 65535) (cap : answered ≤ most) where
-  mark-yes : level < answered → mark most level answered ≡ level + 1
-  unfolding mark
-  mark-yes h = cond-true _ _ (lt-ltb level most (omega arith)) ∙ cond-true _ _ (lt-ltb level answered h)
-
-  mark-drop : level < most → answered ≤ level → mark most level answered ≡ level + 1 + 65536
-  unfolding mark
-  mark-drop h k = cond-true _ _ (lt-ltb level most h) ∙ cond-false _ _ (le-ltb level answered k)
-
-  mark-none : most ≤ level → mark most level answered ≡ 0
-  unfolding mark
-  mark-none h = cond-false _ _ (le-ltb level most h)
+  kept-is : level < answered → mark most level answered ≡ level + 1
+  kept-is h = mark-yes most level answered (omega arith) h
 
   -- it says kept exactly if the frame is met below the answer so far
   mark-kept : isKept (mark most level answered) ≡ ltb level answered
   mark-kept =
       lt-or-ge level answered
       (λ h.
-      ap isKept (mark-yes h) ∙ kept-mark (level + 1) (omega arith) (omega arith) ∙ sym (lt-ltb level answered h))
+      ap isKept (kept-is h) ∙ kept-mark (level + 1) (omega arith) (omega arith) ∙ sym (lt-ltb level answered h))
       (λ h.
       lt-or-ge level most
-      (λ l. ap isKept (mark-drop l h) ∙ dropped-mark (level + 1 + 65536) (omega arith))
-      (λ l. ap isKept (mark-none l) ∙ unmet-mark 0 (omega arith))
+      (λ l. ap isKept (mark-drop most level answered l h) ∙ dropped-mark (level + 1 + 65536) (omega arith))
+      (λ l. ap isKept (mark-none most level answered l) ∙ unmet-mark 0 (omega arith))
       ∙ sym (le-ltb level answered h))
 
   gain-keep : (rank : ℕ) (x : Row) → gain rank (mark most level answered) x ≡ keep rank level answered x
@@ -53,7 +44,7 @@ module _ (most level answered : ℕ) (few : most < 65535) (cap : answered ≤ mo
   gain-keep rank x =
       bcase (ltb level answered)
       (λ e.
-      let is : mark most level answered - 1 ≡ level = omega (arith, mark-yes (ltb-true level answered e)) in
+      let is : mark most level answered - 1 ≡ level = omega (arith, kept-is (ltb-true level answered e)) in
       cond-true _ _ (mark-kept ∙ e) ∙ ap (λ (j : ℕ). x ++ ((rank, j) ∷ [])) is ∙ sym (cond-true _ _ e))
       (λ e. cond-false _ _ (mark-kept ∙ e) ∙ sym (cond-false _ _ e))
 
@@ -67,7 +58,7 @@ module _ (most level answered : ℕ) (few : most < 65535) (cap : answered ≤ mo
       ap (λ (b : Bool). b && ltb 4096 (mark most level answered)) mark-kept
       ∙ bcase (ltb level answered)
       (λ e.
-      let is : mark most level answered ≡ level + 1 = mark-yes (ltb-true level answered e) in
+      let is : mark most level answered ≡ level + 1 = kept-is (ltb-true level answered e) in
       rw e
       (same-truth (ltb 4096 (mark most level answered)) (ltb 4095 level)
       (λ l. lt-ltb 4095 level (omega (arith, ltb-true 4096 (mark most level answered) l)))
@@ -99,10 +90,6 @@ module _ {n w : ℕ} {S L labels counts : List ℕ} {hub : ℕ} {met₀ queue₀
   unfolding far
   few = omega (arith, given .frames)
 
-  so-far-cap : (v : ℕ) → answered v ≤ far 1 n
-  unfolding soFar answer
-  so-far-cap v = least-most (far 1 n) n _
-
   fits-is : fitsAll w counts found ≡ walkFits n w S L labels counts hub
   unfolding fitsAll walkFits kept
   fits-is =
@@ -111,7 +98,7 @@ module _ {n w : ℕ} {S L labels counts : List ℕ} {hub : ℕ} {met₀ queue₀
       (some-ext _ (λ v. ltb (level v) (answered v) && leb w (getD counts v 0)) 0 n
       (λ v l h.
       ap (lacksRoom w (getD counts v 0)) (met-at v (omega arith))
-      ∙ lacks-is (far 1 n) (level v) (answered v) few (so-far-cap v) w (getD counts v 0))))
+      ∙ lacks-is (far 1 n) (level v) (answered v) few (capped n w labels counts hub v) w (getD counts v 0))))
 
   none-far-is : noneFar found ≡ walkNear n w S L labels counts hub
   unfolding noneFar walkNear kept
@@ -122,20 +109,19 @@ module _ {n w : ℕ} {S L labels counts : List ℕ} {hub : ℕ} {met₀ queue₀
       (λ v. ltb (level v) (answered v) && ltb 4095 (level v)) 0 n
       (λ v l h.
       ap isFar (met-at v (omega arith))
-      ∙ far-is (far 1 n) (level v) (answered v) few (so-far-cap v))))
+      ∙ far-is (far 1 n) (level v) (answered v) few (capped n w labels counts hub v))))
 
   settle-is : settleOf w counts found ≡ walkOf n w S L labels counts hub
   unfolding settleOf walkOf
   settle-is =
-      ap (λ (b : Bool). cond b (cond (noneFar found) Made Far) Full) fits-is
-      ∙ ap (λ (b : Bool). cond (walkFits n w S L labels counts hub) (cond b Made Far) Full) none-far-is
+      λ i. decided (fits-is i) (none-far-is i)
 
   -- the rows stored are those after the walk
   rows-are : (rank v : ℕ) → v < n → rowsAfter w rank labels counts found v ≡ walkedRows n w S L labels counts rank hub v
   unfolding rowsAfter walkedRows walkRow levelOf soFar rowsIn
   rows-are rank v h =
       ap (λ (m : ℕ). gain rank m (rowsIn w labels counts v)) (met-at v h)
-      ∙ gain-keep (far 1 n) (level v) (answered v) few (so-far-cap v) rank
+      ∙ gain-keep (far 1 n) (level v) (answered v) few (capped n w labels counts hub v) rank
       (rowsIn w labels counts v)
 
   -- the same for a met room that is the one the first half leaves

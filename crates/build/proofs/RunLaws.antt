@@ -2,7 +2,7 @@
 -- rank r over them makes the rows at r + 1, and it is refused exactly where the rule's rows are over W or over 4,095 joins.
 use Prim.Native.Nat.{ℕ, suc, _≤_, _<_}
 use mathlib.Core.Path.{_≡_, refl, sym, ap, _∙_}
-use mathlib.Core.Bool.{Bool, cond, not, _&&_}
+use mathlib.Core.Bool.{Bool, not, _&&_}
 use mathlib.Core.List.{List, [], _∷_, _++_}
 use native.Mathlib.Omega.{arith}
 use borrow.Author.Tests.{lt-ltb, le-ltb, ltb-true, le-leb, leb-true}
@@ -21,9 +21,8 @@ use Rattle.rows.specs.Rooms.{rowAt}
 use Rattle.rows.proofs.Laws.{Fits, fits-none, fits-more, decode-encode, rank-entry, getD-encode}
 use Rattle.build.specs.Build.{labelsOf, countsOf, fullAt, farFrame, farAt}
 use Rattle.build.specs.Explore.{SoundRows}
-use Rattle.build.specs.Walk.{soFar, levelOf, kept, walkFits}
-use Rattle.build.specs.Settle.{rowsIn, Laid, walkedRows, walkNear, walkOf}
-use Rattle.build.specs.declared.settle.Walked.the-variants.{Made, Full, Far}
+use Rattle.build.specs.Walk.{rowsIn, soFar, levelOf, kept, walkFits}
+use Rattle.build.specs.Settle.{Laid, walkedRows, walkNear, decided, walkOf}
 use Rattle.build.proofs.RoomLaws.{row-is, labels-ext, counts-ext, count-at}
 
 -- ---- one kept entry
@@ -173,11 +172,6 @@ module _ {n w : ℕ} {S L O : List ℕ} {r : ℕ} (g : Ruled n w S L O r) where
     unfolding walkNear farAt
     walk-far = ap not (some-ext _ _ 0 n (λ v l h. far-frame v (omega arith)))
 
-    pub walk-is : walkOf n w S L labels counts (hubOf O r)
-        ≡ cond (fullAt n w S L O r) Full (cond (farAt n S L O r) Far Made)
+    pub walk-is : walkOf n w S L labels counts (hubOf O r) ≡ decided (not (fullAt n w S L O r)) (not (farAt n S L O r))
     unfolding walkOf
-    walk-is =
-        rw (walk-full, walk-far)
-        (bcase (fullAt n w S L O r)
-        (λ e. rw e refl)
-        (λ e. bcase (farAt n S L O r) (λ f. rw (e, f) refl) (λ f. rw (e, f) refl)))
+    walk-is = λ i. decided (walk-full i) (walk-far i)

@@ -1,8 +1,8 @@
 -- The state of a run between two walks: rooms that hold the rule's rows at the rank reached, work rooms 0, and no rank
 -- before it that stops. One walk takes it to the next rank, or the run ends there.
 use Prim.Native.Nat.{ℕ, _+_, _*_, _≤_, _<_}
-use mathlib.Core.Path.{_≡_, sym, ap, _∙_}
-use mathlib.Core.Bool.{true, false, cond}
+use mathlib.Core.Path.{_≡_, refl, sym, ap, _∙_}
+use mathlib.Core.Bool.{true, false, not}
 use mathlib.Core.List.{List}
 use native.Mathlib.Decide.{ℕ-discrete}
 use native.Mathlib.Numerals.{add-one}
@@ -16,7 +16,7 @@ use Rattle.refusal.proofs.Laws.{fine-not-refused}
 use Rattle.theory.specs.Links.{hubOf}
 use Rattle.theory.specs.Plain.{rowBy}
 use Rattle.build.specs.Build.{labelsOf, countsOf, fullAt, farAt, stopAt, walksTest, RunIn, RunOut}
-use Rattle.build.specs.Settle.{WalkIn, WalkOut, walkedRows, ifMade, verdictOf}
+use Rattle.build.specs.Settle.{WalkIn, WalkOut, decided, walkedRows, ifMade, verdictOf}
 use Rattle.build.specs.declared.settle.Walked.{Walked}
 use Rattle.build.specs.declared.settle.Walked.the-variants.{Made, Full, Far}
 use Rattle.build.proofs.RoomLaws.{labels-ext, counts-ext, length-labels, length-counts}
@@ -62,37 +62,42 @@ run-ends {n} {w} {k} {S} {L} {O} {r = r} h s =
       queue-zero = s .queue-zero;
     }
 
--- the rooms keep their lengths
+-- the rooms are as long as they were lent
+pub record AsLong (labels₀ counts₀ met₀ queue₀ noted₀ labels counts met queue noted : List ℕ) : Type 0 where
+  pub of-labels : length labels ≡ length labels₀
+  pub of-counts : length counts ≡ length counts₀
+  pub of-met : length met ≡ length met₀
+  pub of-queue : length queue ≡ length queue₀
+  pub of-noted : length noted ≡ length noted₀
+
 pub run-lengths : {n w k r : ℕ} {S L O labels₀ counts₀ met₀ queue₀ noted₀ labels counts met queue noted : List ℕ}
     → RunIn n w k S L O labels₀ counts₀ met₀ queue₀ noted₀ → Running n w k S L O r labels counts met queue noted
-    → (length labels ≡ length labels₀)
-    × (length counts ≡ length counts₀)
-    × (length met ≡ length met₀)
-    × (length queue ≡ length queue₀)
-    × (length noted ≡ length noted₀)
-run-lengths {n} {w} {r = r} {S} {L} {O} i s = (
-  ap length (s .rows)
-      ∙ length-labels n w (rowBy n S L O r)
-      ∙ sym (ap length (i .labels-zero) ∙ length-replicate (n * w) 0),
-  ap length (s .numbers) ∙ length-counts n (rowBy n S L O r) ∙ sym (ap length (i .counts-zero) ∙ length-replicate n 0),
-  ap length (s .met-zero ∙ sym (i .met-zero)),
-  ap length (s .queue-zero ∙ sym (i .queue-zero)),
-  ap length (s .noted-far ∙ sym (i .noted-far)),
-)
+    → AsLong labels₀ counts₀ met₀ queue₀ noted₀ labels counts met queue noted
+run-lengths {n} {w} {r = r} {S} {L} {O} i s =
+    record {
+      of-labels =
+          ap length (s .rows)
+          ∙ length-labels n w (rowBy n S L O r)
+          ∙ sym (ap length (i .labels-zero) ∙ length-replicate (n * w) 0);
+      of-counts = ap length (s .numbers) ∙ length-counts n (rowBy n S L O r) ∙ sym (ap length (i .counts-zero) ∙ length-replicate n 0);
+      of-met = ap length (s .met-zero ∙ sym (i .met-zero));
+      of-queue = ap length (s .queue-zero ∙ sym (i .queue-zero));
+      of-noted = ap length (s .noted-far ∙ sym (i .noted-far));
+    }
 
 module _ {n w k : ℕ} {S L O labels₀ counts₀ met₀ queue₀ noted₀ labels counts met queue noted : List ℕ} {r : ℕ}
     (i : RunIn n w k S L O labels₀ counts₀ met₀ queue₀ noted₀) (s : Running n w k S L O r labels counts met queue noted)
     (h : r < k) where
   below : r < n
-  below = omega (arith, i .stop)
+  below = omega (arith, i .given .stop)
 
   ruled : Ruled n w S L O r
   ruled =
       record {
-        block = i .block;
-        order = i .order;
-        frames = i .frames;
-        wide = i .wide;
+        block = i .given .block;
+        order = i .given .order;
+        frames = i .given .sizes .frames;
+        wide = i .given .sizes .some-width;
         below = omega (arith, below);
         fit = fit-upto n w S L O r (s .none);
       }
@@ -107,13 +112,13 @@ module _ {n w k : ℕ} {S L O labels₀ counts₀ met₀ queue₀ noted₀ label
       (record {
         ready =
             record {
-              frames = i .frames;
-              wide = i .wide;
-              width = i .width;
-              block = i .block;
+              frames = i .given .sizes .frames;
+              wide = i .given .sizes .some-width;
+              width = i .given .sizes .width;
+              block = i .given .block;
               labels-long = length-labels n w (rowBy n S L O r);
               rows = sound-back ruled;
-              hub-in = i .order .inside r below;
+              hub-in = i .given .order .inside r below;
               met-zero = s .met-zero;
               queue-zero = s .queue-zero;
               noted-far = s .noted-far;
@@ -127,22 +132,25 @@ module _ {n w k : ℕ} {S L O labels₀ counts₀ met₀ queue₀ noted₀ label
     out : WalkOut n w S L (labelsOf n w (rowBy n S L O r)) (countsOf n (rowBy n S L O r)) r (hubOf O r) walked labels′ counts′ met′ queue′
     out = rw (run-long, s .rows, s .numbers) at o
 
-    which : walked ≡ cond (fullAt n w S L O r) Full (cond (farAt n S L O r) Far Made)
+    which : walked ≡ decided (not (fullAt n w S L O r)) (not (farAt n S L O r))
     which = out .answer ∙ walk-is ruled below
 
-    is-full : fullAt n w S L O r ≡ true → walked ≡ Full
-    is-full e = which ∙ cond-true _ _ e
-
-    is-far : fullAt n w S L O r ≡ false → farAt n S L O r ≡ true → walked ≡ Far
-    is-far e f = which ∙ cond-false _ _ e ∙ cond-true _ _ f
-
-    is-made : fullAt n w S L O r ≡ false → farAt n S L O r ≡ false → walked ≡ Made
-    is-made e f = which ∙ cond-false _ _ e ∙ cond-false _ _ f
+    -- it is full, else far, else made
+    by-walk {ℓ} : {C : Type ℓ} → (fullAt n w S L O r ≡ true → walked ≡ Full → C)
+        → (fullAt n w S L O r ≡ false → farAt n S L O r ≡ true → walked ≡ Far → C)
+        → (fullAt n w S L O r ≡ false → farAt n S L O r ≡ false → walked ≡ Made → C) → C
+    by-walk full distant made =
+        bcase (fullAt n w S L O r)
+        (λ e. full e (which ∙ cond-false _ _ (ap not e)))
+        (λ e.
+        bcase (farAt n S L O r)
+        (λ f. distant e f (which ∙ cond-true _ _ (ap not e) ∙ cond-false _ _ (ap not f)))
+        (λ f. made e f (which ∙ cond-true _ _ (ap not e) ∙ cond-true _ _ (ap not f))))
 
     -- a walk that is made takes the run to the next rank
-    next : fullAt n w S L O r ≡ false → farAt n S L O r ≡ false → Running n w k S L O (r + 1) labels′ counts′ met′ queue′ noted′
-    next e f =
-        let made : walked ≡ Made = is-made e f in
+    next : fullAt n w S L O r ≡ false → farAt n S L O r ≡ false → walked ≡ Made
+        → Running n w k S L O (r + 1) labels′ counts′ met′ queue′ noted′
+    next e f made =
         let after : (v : ℕ) → v < n
         → walkedRows n w S L (labelsOf n w (rowBy n S L O r)) (countsOf n (rowBy n S L O r)) r (hubOf O r) v ≡ rowBy n S L O (r + 1) v =
         λ v l.
@@ -152,7 +160,7 @@ module _ {n w k : ℕ} {S L O labels₀ counts₀ met₀ queue₀ noted₀ label
           upto = omega arith;
           rows =
               out .rows ∙ made-is made _ _
-              ∙ labels-ext n w _ (rowBy n S L O (r + 1)) (i .wide) after;
+              ∙ labels-ext n w _ (rowBy n S L O (r + 1)) (i .given .sizes .some-width) after;
           numbers = out .numbers ∙ made-is made _ _ ∙ counts-ext n _ (rowBy n S L O (r + 1)) after;
           met-zero = out .met-zero;
           queue-zero = out .queue-zero;
@@ -165,14 +173,16 @@ module _ {n w k : ℕ} {S L O labels₀ counts₀ met₀ queue₀ noted₀ label
         }
 
     -- a walk that is not made ends it at this rank, with rows and counts as they were
-    stopped : {verdict : Verdict} → stops n w S L O r ≡ true → ((x y : List ℕ) → ifMade walked x y ≡ y)
-        → verdict ≡ walksTest n w k S L O → RunOut n w k S L O verdict labels′ counts′ met′ queue′
-    stopped e still answer =
+    stopped : {verdict : Verdict} {how : Walked} → verdict ≡ verdictOf walked r → walked ≡ how
+        → ((x y : List ℕ) → ifMade how x y ≡ y) → stops n w S L O r ≡ true → walksTest n w k S L O ≡ verdictOf how r
+        → RunOut n w k S L O verdict labels′ counts′ met′ queue′
+    stopped said is still e test =
         let at : r ≡ stopAt n w k S L O = sym (stop-here n w S L O k r h (s .none) e) in
+        let same : (x y : List ℕ) → ifMade walked x y ≡ y = λ x y. ap (λ (z : Walked). ifMade z x y) is ∙ still x y in
         record {
-          answer = answer;
-          rows = out .rows ∙ still _ _ ∙ ap (λ (j : ℕ). labelsOf n w (rowBy n S L O j)) at;
-          numbers = out .numbers ∙ still _ _ ∙ ap (λ (j : ℕ). countsOf n (rowBy n S L O j)) at;
+          answer = said ∙ ap (λ (z : Walked). verdictOf z r) is ∙ sym test;
+          rows = out .rows ∙ same _ _ ∙ ap (λ (j : ℕ). labelsOf n w (rowBy n S L O j)) at;
+          numbers = out .numbers ∙ same _ _ ∙ ap (λ (j : ℕ). countsOf n (rowBy n S L O j)) at;
           met-zero = out .met-zero;
           queue-zero = out .queue-zero;
         }
@@ -180,26 +190,18 @@ module _ {n w k : ℕ} {S L O labels₀ counts₀ met₀ queue₀ noted₀ label
     pub run-next : verdictOf walked r ≡ Fine → Running n w k S L O (r + 1) labels′ counts′ met′ queue′ noted′
     unfolding verdictOf
     run-next fine =
-        bcase (fullAt n w S L O r)
-        (λ e. fine-not-refused (sym fine ∙ ap (λ (x : Walked). verdictOf x r) (is-full e)))
-        (λ e.
-        bcase (farAt n S L O r)
-        (λ f. fine-not-refused (sym fine ∙ ap (λ (x : Walked). verdictOf x r) (is-far e f)))
-        (next e))
+        by-walk
+        (λ e is. fine-not-refused (sym fine ∙ ap (λ (z : Walked). verdictOf z r) is))
+        (λ e f is. fine-not-refused (sym fine ∙ ap (λ (z : Walked). verdictOf z r) is))
+        next
 
     pub run-stops : {verdict : Verdict} {refused : Refusal} → verdict ≡ verdictOf walked r → verdict ≡ Refused refused
         → RunOut n w k S L O verdict labels′ counts′ met′ queue′
     unfolding verdictOf ifMade
-    run-stops is not-fine =
-        bcase (fullAt n w S L O r)
-        (λ e.
-        stopped (either-left (fullAt n w S L O r) (farAt n S L O r) e)
-        (λ x y. ap (λ (z : Walked). ifMade z x y) (is-full e))
-        (is ∙ ap (λ (z : Walked). verdictOf z r) (is-full e) ∙ sym (run-full n w S L O k r h (s .none) e)))
-        (λ e.
-        bcase (farAt n S L O r)
-        (λ f.
-        stopped (either-right (fullAt n w S L O r) (farAt n S L O r) f)
-        (λ x y. ap (λ (z : Walked). ifMade z x y) (is-far e f))
-        (is ∙ ap (λ (z : Walked). verdictOf z r) (is-far e f) ∙ sym (run-far n w S L O k r h (s .none) e f)))
-        (λ f. fine-not-refused (sym (is ∙ ap (λ (z : Walked). verdictOf z r) (is-made e f)) ∙ not-fine)))
+    run-stops said not-fine =
+        by-walk
+        (λ e is.
+        stopped said is (λ x y. refl) (either-left (fullAt n w S L O r) (farAt n S L O r) e) (run-full n w S L O k r h (s .none) e))
+        (λ e f is.
+        stopped said is (λ x y. refl) (either-right (fullAt n w S L O r) (farAt n S L O r) f) (run-far n w S L O k r h (s .none) e f))
+        (λ e f is. fine-not-refused (sym (said ∙ ap (λ (z : Walked). verdictOf z r) is) ∙ not-fine))

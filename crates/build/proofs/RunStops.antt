@@ -7,8 +7,7 @@ use native.Mathlib.Omega.{arith}
 use borrow.Author.Tests.{eq-eqb, ne-eqb, ltb-false}
 use lib.ListN.{length, getD, replicate, length-replicate, getD-replicate}
 use lib.Dec.{ltb}
-use lib.Seq.{ext-getD}
-use Rattle.basics.proofs.Laws.{first-is, first-none, some-not, either-left, either-right, either-false}
+use Rattle.basics.proofs.Laws.{is-table, first-is, first-none, some-not, either-left, either-right, either-false}
 use Rattle.refusal.specs.Numbers.{ROOM, FAR}
 use Rattle.refusal.specs.Tests.{refusal}
 use Rattle.refusal.specs.declared.Verdict.the-variants.{Fine, Refused}
@@ -18,7 +17,6 @@ use Rattle.theory.specs.Plain.{rowBy}
 use Rattle.theory.proofs.Plain.{row-none}
 use Rattle.rows.specs.Entry.{encode}
 use Rattle.build.specs.Build.{labelsOf, countsOf, fullAt, farAt, stopAt, walksTest}
-use Rattle.build.proofs.RoomLaws.{label-at, length-labels, length-counts, count-at}
 
 -- at rank r one of the two is so
 abbrev pub stops : ℕ → ℕ → List ℕ → List ℕ → List ℕ → ℕ → Bool
@@ -31,25 +29,20 @@ no-entry i = refl
 module _ (n w : ℕ) (S L O : List ℕ) where
   -- before any walk the rows are empty, and the rooms 0
   pub labels-empty : labelsOf n w (rowBy n S L O 0) ≡ replicate (n * w) 0
+  unfolding labelsOf
   labels-empty =
-      ext-getD 0 (labelsOf n w (rowBy n S L O 0)) (replicate (n * w) 0)
-      (length-labels n w (rowBy n S L O 0) ∙ sym (length-replicate (n * w) 0))
+      sym
+      (is-table 0 (replicate (n * w) 0) (n * w) _ (length-replicate (n * w) 0)
       (λ p h.
-      let low : p < n * w = omega (arith, length-labels n w (rowBy n S L O 0)) in
-      label-at n w (rowBy n S L O 0) p low
-      ∙ ap (λ (x : Row). getD (encode x) (p % w) 0) (row-none n S L O (p / w))
-      ∙ no-entry (p % w)
-      ∙ sym (getD-replicate (n * w) p 0 0 low))
+      getD-replicate (n * w) p 0 0 h
+      ∙ sym (ap (λ (x : Row). getD (encode x) (p % w) 0) (row-none n S L O (p / w)) ∙ no-entry (p % w))))
 
   pub counts-empty : countsOf n (rowBy n S L O 0) ≡ replicate n 0
+  unfolding countsOf
   counts-empty =
-      ext-getD 0 (countsOf n (rowBy n S L O 0)) (replicate n 0)
-      (length-counts n (rowBy n S L O 0) ∙ sym (length-replicate n 0))
-      (λ v h.
-      let low : v < n = omega (arith, length-counts n (rowBy n S L O 0)) in
-      count-at n (rowBy n S L O 0) v low
-      ∙ ap (λ (x : Row). length x) (row-none n S L O v)
-      ∙ sym (getD-replicate n v 0 0 low))
+      sym
+      (is-table 0 (replicate n 0) n _ (length-replicate n 0)
+      (λ v h. getD-replicate n v 0 0 h ∙ sym (ap (λ (x : Row). length x) (row-none n S L O v))))
 
   -- where no rank before r stops, the rows at r have at most w entries
   pub fit-upto : (r : ℕ) → ((j : ℕ) → j < r → stops n w S L O j ≡ false) → (v : ℕ) → v < n → length (rowBy n S L O r v) ≤ w

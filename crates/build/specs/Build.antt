@@ -8,6 +8,7 @@ use lib.ListN.{length, getD, replicate}
 use lib.Dec.{leb, ltb, eqb}
 use Rattle.basics.specs.Places.{first, some, table, sum}
 use Rattle.refusal.specs.Numbers.{SIZE, LENGTH, ROOM, FAR}
+use Rattle.refusal.specs.Sizes.{sizesFit, placesFit, Sizes}
 use Rattle.refusal.specs.Tests.{test, _then_}
 use Rattle.refusal.specs.declared.Verdict.{Verdict}
 use Rattle.refusal.specs.declared.Verdict.the-variants.{Fine, Refused}
@@ -15,10 +16,9 @@ use Rattle.theory.specs.Distance.{far}
 use Rattle.theory.specs.Links.{Block, Order, hubOf}
 use Rattle.theory.specs.Rows.{Row, hubs}
 use Rattle.theory.specs.Plain.{ones, joinsTo, rowBy}
-use Rattle.links.specs.Links.{placesFit, startsTest, listsTest}
+use Rattle.links.specs.Links.{startsTest, listsTest}
 use Rattle.links.specs.Order.{orderTest}
 use Rattle.rows.specs.Entry.{encode}
-use Rattle.rows.specs.Rooms.{sizesFit}
 use Rattle.build.specs.declared.Built.{Built}
 use Rattle.build.specs.declared.Built.the-variants.{Entries, Refused as NotBuilt}
 
@@ -74,14 +74,16 @@ walksTest n w k S L O =
     let full : Bool = fullAt n w S L O r in
     test (eqb r k) (cond full ROOM FAR) (cond full r 0)
 
--- what the tests show: a block, an order, and rooms of the right length
-pub record MakeIn (n w k : ℕ) (S L O labels counts met queue : List ℕ) : Type 0 where
-  pub frames : n ≤ 4096
-  pub wide : 1 ≤ w
-  pub width : w ≤ 256
+-- what the tests show of what is only read: a block and an order
+pub record Tested (n w k : ℕ) (S L O : List ℕ) : Type 0 where
+  pub sizes : Sizes n w
   pub stop : k ≤ n
   pub block : Block n 1 S L ones
   pub order : Order n O
+
+-- and of the rooms to fill: they have the right length
+pub record MakeIn (n w k : ℕ) (S L O labels counts met queue : List ℕ) : Type 0 where
+  pub given : Tested n w k S L O
   pub labels-long : length labels ≡ n * w
   pub counts-long : length counts ≡ n
   pub met-long : length met ≡ n
@@ -89,12 +91,7 @@ pub record MakeIn (n w k : ℕ) (S L O labels counts met queue : List ℕ) : Typ
 
 -- the same with the rooms cleared
 pub record RunIn (n w k : ℕ) (S L O labels counts met queue noted : List ℕ) : Type 0 where
-  pub frames : n ≤ 4096
-  pub wide : 1 ≤ w
-  pub width : w ≤ 256
-  pub stop : k ≤ n
-  pub block : Block n 1 S L ones
-  pub order : Order n O
+  pub given : Tested n w k S L O
   pub labels-zero : labels ≡ replicate (n * w) 0
   pub counts-zero : counts ≡ replicate n 0
   pub met-zero : met ≡ replicate n 0

@@ -3,7 +3,7 @@
 use Prim.Native.Nat.{ℕ, _+_, _-_, _*_, _%_, _≤_, _<_, min}
 use mathlib.Core.Path.{_≡_}
 use mathlib.Core.Logic.{_⊎_}
-use mathlib.Core.Bool.{Bool, true, false}
+use mathlib.Core.Bool.{Bool, true, false, cond}
 use mathlib.Core.List.{List, [], _∷_}
 use lib.ListN.{length, getD, set, replicate}
 use lib.Dec.{leb}
@@ -33,19 +33,19 @@ pub record ExploreIn (n w : ℕ) (S L labels counts : List ℕ) (hub : ℕ) (met
   pub queue-zero : queue ≡ replicate n 0
   pub noted-far : noted ≡ replicate 4096 65536
 
--- The first t places of the queue are the frames that the met room marks, each once; the places behind them are 0.
-pub record Queued (met queue : List ℕ) (t : ℕ) : Type 0 where
+-- The first `tail` places of the queue are the frames that the met room marks, each once; the places behind them are 0.
+pub record Queued (met queue : List ℕ) (tail : ℕ) : Type 0 where
   pub long : length queue ≡ length met
-  pub few : t ≤ length met
-  pub low : (i : ℕ) → i < t → getD queue i 0 < length met
-  pub marked : (i : ℕ) → i < t → 0 < getD met (getD queue i 0) 0
-  pub all : (v : ℕ) → v < length met → 0 < getD met v 0 → (i : ℕ) × (i < t) × (getD queue i 0 ≡ v)
-  pub once : (i j : ℕ) → i < j → j < t → getD queue i 0 ≡ getD queue j 0 → ⊥
-  pub rest : (i : ℕ) → t ≤ i → getD queue i 0 ≡ 0
+  pub few : tail ≤ length met
+  pub low : (i : ℕ) → i < tail → getD queue i 0 < length met
+  pub marked : (i : ℕ) → i < tail → 0 < getD met (getD queue i 0) 0
+  pub all : (v : ℕ) → v < length met → 0 < getD met v 0 → (i : ℕ) × (i < tail) × (getD queue i 0 ≡ v)
+  pub once : (i j : ℕ) → i < j → j < tail → getD queue i 0 ≡ getD queue j 0 → ⊥
+  pub rest : (i : ℕ) → tail ≤ i → getD queue i 0 ≡ 0
 
--- a frame that is not dropped has a level below t: its mark is the level + 1
-pub record Low (met : List ℕ) (t : ℕ) : Type 0 where
-  pub mark : (v : ℕ) → v < length met → getD met v 0 < 65536 → getD met v 0 ≤ t
+-- a frame that is not dropped has a level below `tail`: its mark is the level + 1
+pub record Low (met : List ℕ) (tail : ℕ) : Type 0 where
+  pub mark : (v : ℕ) → v < length met → getD met v 0 < 65536 → getD met v 0 ≤ tail
 
 -- how many places of a list are not 0
 unfoldable pub filled : List ℕ → ℕ
@@ -53,23 +53,26 @@ filled [] = 0
 filled (x ∷ xs) = min x 1 + filled xs
 
 -- the queue of a walk under way: as many frames as the met room marks
-pub record Queue (met queue : List ℕ) (t : ℕ) : Type 0 where
-  pub is : Queued met queue t
-  pub count : filled met ≡ t
+pub record Queue (met queue : List ℕ) (tail : ℕ) : Type 0 where
+  pub is : Queued met queue tail
+  pub count : filled met ≡ tail
 
--- one more than the level at which v was met: the drop mark taken off
-abbrev pub levelAt : List ℕ → ℕ → ℕ
-levelAt met v = getD met v 0 % 65536
+-- the mark that v was met with, one more than its level: what a drop adds is taken off
+abbrev pub metAt : List ℕ → ℕ → ℕ
+metAt met v = getD met v 0 % 65536
 
--- a table with the joins of a row stored by rank
-unfoldable pub notedBy : List ℕ → List ℕ → List ℕ
-notedBy [] noted = noted
-notedBy (e ∷ es) noted = notedBy es (set noted (rankOf e) (joinsOf e))
+-- what is noted for an entry: its joins, or 65,536 where its rank is forgotten
+unfoldable pub noteOf : Bool → ℕ → ℕ
+noteOf forget e = cond forget 65536 (joinsOf e)
 
--- a table with 65,536 stored at the ranks of a row
-unfoldable pub forgotten : List ℕ → List ℕ → List ℕ
-forgotten [] noted = noted
-forgotten (e ∷ es) noted = forgotten es (set noted (rankOf e) 65536)
+-- a table with the notes of a row stored by rank
+unfoldable pub notedBy : Bool → List ℕ → List ℕ → List ℕ
+notedBy forget [] noted = noted
+notedBy forget (e ∷ es) noted = notedBy forget es (set noted (rankOf e) (noteOf forget e))
+
+-- every rank of the row has a place in the table
+abbrev pub RanksIn : List ℕ → List ℕ → Type 0
+RanksIn row noted = (i : ℕ) → i < length row → rankOf (getD row i 0) < length noted
 
 -- the answer for the noted row and this row is at most the level: some entry and the noted joins of its rank say so
 unfoldable pub within : List ℕ → List ℕ → ℕ → Bool
@@ -79,87 +82,89 @@ within noted row level = some (λ i. leb (joinsOf (getD row i 0) + getD noted (r
 unfoldable pub drops : ℕ → List ℕ → List ℕ → List ℕ → ℕ → ℕ → Bool
 drops w labels counts noted u level = within noted (rowAt w labels counts u) level
 
--- what the drop test of u needs: its row, and a note for every rank
-pub record DropIn (n w : ℕ) (labels counts noted : List ℕ) (u : ℕ) : Type 0 where
-  pub frames : n ≤ 4096
-  pub width : w ≤ 256
+-- the row of v, one of n sound rows in a label room of n * w places
+pub record RowSound (n w : ℕ) (labels counts : List ℕ) (v : ℕ) : Type 0 where
   pub labels-long : length labels ≡ n * w
   pub rows : SoundRows n w labels counts
+  pub frame : v < n
+
+-- what the drop test of u needs: its row, and a note for every rank
+pub record DropIn (n w : ℕ) (labels counts noted : List ℕ) (u : ℕ) : Type 0 where
+  pub row : RowSound n w labels counts u
   pub notes : n ≤ length noted
-  pub frame : u < n
 
 -- what meeting the neighbours of u needs: a block, and room for frame numbers
-pub record MeetIn (S L : List ℕ) (u x : ℕ) (met queue : List ℕ) (t : ℕ) : Type 0 where
+pub record MeetIn (S L : List ℕ) (u mark : ℕ) (met queue : List ℕ) (tail : ℕ) : Type 0 where
   pub block : Block (length met) 1 S L ones
   pub frames : length met ≤ 4096
   pub frame : u < length met
-  pub some : 0 < x
-  pub line : Queue met queue t
+  pub some : 0 < mark
+  pub line : Queue met queue tail
 
--- The frames in the list of u from its start up to place `upto` are met: those not met before at x, behind the old queue.
-pub record Grown (S L : List ℕ) (u upto x : ℕ) (met queue : List ℕ) (t : ℕ) (met' queue' : List ℕ) (t' : ℕ) : Type 0 where
-  pub line : Queue met' queue' t'
+-- The frames in the list of u from its start up to place `upto` are met: those not met before with this mark, behind the old queue.
+pub record Grown (S L : List ℕ) (u upto mark : ℕ) (met queue : List ℕ) (tail : ℕ) (met' queue' : List ℕ) (tail' : ℕ) : Type 0 where
+  pub line : Queue met' queue' tail'
   pub long : length met' ≡ length met
-  pub more : t ≤ t'
-  pub front : (i : ℕ) → i < t → getD queue' i 0 ≡ getD queue i 0
+  pub more : tail ≤ tail'
+  pub front : (i : ℕ) → i < tail → getD queue' i 0 ≡ getD queue i 0
   pub old : (v : ℕ) → 0 < getD met v 0 → getD met' v 0 ≡ getD met v 0
-  pub fresh : (i : ℕ) → t ≤ i → i < t' → getD met (getD queue' i 0) 0 ≡ 0
-  pub new : (v : ℕ) → getD met v 0 ≡ 0 → 0 < getD met' v 0 → (getD met' v 0 ≡ x) × Link S L ones u v 1
+  pub fresh : (i : ℕ) → tail ≤ i → i < tail' → getD met (getD queue' i 0) 0 ≡ 0
+  pub new : (v : ℕ) → getD met v 0 ≡ 0 → 0 < getD met' v 0 → (getD met' v 0 ≡ mark) × Link S L ones u v 1
   pub all : (at : ℕ) → getD S u 0 ≤ at → at < upto → 0 < getD met' (getD L at 0) 0
 
 -- a frame that is not dropped: every neighbour is met, at most one level on
 pub record Kept (S L : List ℕ) (drop : ℕ → ℕ → Bool) (met : List ℕ) (u : ℕ) : Type 0 where
   pub plain : getD met u 0 < 65536
-  pub free : drop u (levelAt met u - 1) ≡ false
+  pub free : drop u (metAt met u - 1) ≡ false
   pub met-all : (v : ℕ) → Link S L ones u v 1 → 0 < getD met v 0
-  pub next : (v : ℕ) → Link S L ones u v 1 → levelAt met v ≤ levelAt met u + 1
+  pub next : (v : ℕ) → Link S L ones u v 1 → metAt met v ≤ metAt met u + 1
 
 -- a frame that is dropped has the mark
 pub record Dropped (drop : ℕ → ℕ → Bool) (met : List ℕ) (u : ℕ) : Type 0 where
   pub marked : 65536 ≤ getD met u 0
-  pub found : drop u (levelAt met u - 1) ≡ true
+  pub found : drop u (metAt met u - 1) ≡ true
 
--- a frame that was met from a kept frame before place h of the queue
-pub record Parent (S L met queue : List ℕ) (h v : ℕ) : Type 0 where
+-- a frame that was met from a kept frame before place `head` of the queue
+pub record Parent (S L met queue : List ℕ) (head v : ℕ) : Type 0 where
   pub place : ℕ
-  pub before : place < h
+  pub before : place < head
   pub link : Link S L ones (getD queue place 0) v 1
   pub kept : getD met (getD queue place 0) 0 < 65536
-  pub level : levelAt met v ≡ levelAt met (getD queue place 0) + 1
+  pub level : metAt met v ≡ metAt met (getD queue place 0) + 1
 
--- The walk with the frames before place h of the queue done: levels never fall along the queue, and the last is at most one above
--- that of the frame at h; every frame but the hub has its reason.
-pub record Bfs (n : ℕ) (S L : List ℕ) (drop : ℕ → ℕ → Bool) (hub : ℕ) (met queue : List ℕ) (h t : ℕ) : Type 0 where
+-- The walk with the frames before place `head` of the queue done: levels never fall along the queue, and the last is at most one above
+-- that of the frame at `head`; every frame but the hub has its reason.
+pub record Bfs (n : ℕ) (S L : List ℕ) (drop : ℕ → ℕ → Bool) (hub : ℕ) (met queue : List ℕ) (head tail : ℕ) : Type 0 where
   pub long : length met ≡ n
-  pub line : Queue met queue t
-  pub ahead : h ≤ t
-  pub some : 0 < t
+  pub line : Queue met queue tail
+  pub ahead : head ≤ tail
+  pub some : 0 < tail
   pub first : getD queue 0 0 ≡ hub
-  pub start : levelAt met hub ≡ 1
-  pub small : (i : ℕ) → i < t → getD met (getD queue i 0) 0 < 131072
-  pub least : (i : ℕ) → i < t → 1 ≤ levelAt met (getD queue i 0)
-  pub rise : (i j : ℕ) → i < j → j < t → levelAt met (getD queue i 0) ≤ levelAt met (getD queue j 0)
-  pub near : (j : ℕ) → h < t → j < t → levelAt met (getD queue j 0) ≤ levelAt met (getD queue h 0) + 1
-  pub short : (j : ℕ) → j < t → levelAt met (getD queue j 0) ≤ j + 1
-  pub plain : (j : ℕ) → h ≤ j → j < t → getD met (getD queue j 0) 0 < 65536
-  pub reason : (j : ℕ) → j < t → (getD queue j 0 ≡ hub) ⊎ Parent S L met queue h (getD queue j 0)
-  pub done : (i : ℕ) → i < h → Kept S L drop met (getD queue i 0) ⊎ Dropped drop met (getD queue i 0)
+  pub start : metAt met hub ≡ 1
+  pub small : (i : ℕ) → i < tail → getD met (getD queue i 0) 0 < 131072
+  pub least : (i : ℕ) → i < tail → 1 ≤ metAt met (getD queue i 0)
+  pub rise : (i j : ℕ) → i < j → j < tail → metAt met (getD queue i 0) ≤ metAt met (getD queue j 0)
+  pub near : (j : ℕ) → head < tail → j < tail → metAt met (getD queue j 0) ≤ metAt met (getD queue head 0) + 1
+  pub short : (j : ℕ) → j < tail → metAt met (getD queue j 0) ≤ j + 1
+  pub plain : (j : ℕ) → head ≤ j → j < tail → getD met (getD queue j 0) 0 < 65536
+  pub reason : (j : ℕ) → j < tail → (getD queue j 0 ≡ hub) ⊎ Parent S L met queue head (getD queue j 0)
+  pub done : (i : ℕ) → i < head → Kept S L drop met (getD queue i 0) ⊎ Dropped drop met (getD queue i 0)
 
--- what a walk needs: a block, and the drop test of every frame
-pub record WalkIn (n w : ℕ) (S L labels counts noted : List ℕ) : Type 0 where
+-- what a walk goes over: a block, and the drop test of every frame
+pub record WalkOver (n w : ℕ) (S L labels counts noted : List ℕ) : Type 0 where
   pub frames : n ≤ 4096
   pub block : Block n 1 S L ones
   pub test : (u : ℕ) → u < n → DropIn n w labels counts noted u
 
 -- a walk under way, with a frame to come
-pub record StepIn (n w : ℕ) (S L labels counts noted met queue : List ℕ) (h t : ℕ) : Type 0 where
-  pub given : WalkIn n w S L labels counts noted
-  pub so-far : Bfs n S L (drops w labels counts noted) (getD queue 0 0) met queue h t
-  pub more : h < t
+pub record StepIn (n w : ℕ) (S L labels counts noted met queue : List ℕ) (head tail : ℕ) : Type 0 where
+  pub given : WalkOver n w S L labels counts noted
+  pub so-far : Bfs n S L (drops w labels counts noted) (getD queue 0 0) met queue head tail
+  pub more : head < tail
 
 -- a walk to begin
 pub record SpreadIn (n w : ℕ) (S L labels counts noted : List ℕ) (hub : ℕ) (met queue : List ℕ) : Type 0 where
-  pub given : WalkIn n w S L labels counts noted
+  pub given : WalkOver n w S L labels counts noted
   pub hub-in : hub < n
   pub met-zero : met ≡ replicate n 0
   pub queue-zero : queue ≡ replicate n 0

@@ -15,17 +15,11 @@ use Rattle.theory.specs.Distance.{far}
 use Rattle.theory.specs.Rows.{Row}
 use Rattle.theory.specs.Walk.{walkRow}
 use Rattle.theory.specs.Plain.{joined}
-use Rattle.rows.specs.Entry.{decode}
-use Rattle.rows.specs.Rooms.{rowAt}
 use Rattle.build.specs.Build.{labelsOf, countsOf}
 use Rattle.build.specs.Explore.{Queued, Low, ExploreIn}
-use Rattle.build.specs.Walk.{levelOf, kept, walkFits}
+use Rattle.build.specs.Walk.{rowsIn, levelOf, kept, walkFits}
 use Rattle.build.specs.declared.settle.Walked.{Walked}
 use Rattle.build.specs.declared.settle.Walked.the-variants.{Made, Full, Far}
-
--- the rows that a label room and a count room hold
-unfoldable pub rowsIn : ℕ → List ℕ → List ℕ → ℕ → Row
-rowsIn w labels counts v = decode (rowAt w labels counts v)
 
 -- the two rooms hold their rows and nothing else: unused places are 0
 pub record Laid (n w : ℕ) (labels counts : List ℕ) : Type 0 where
@@ -85,10 +79,12 @@ pub record SettleIn (w : ℕ) (labels counts met queue : List ℕ) (tail : ℕ) 
   pub low : Low met tail
 
 -- the walk decides before it stores: ROOM first, then FAR
+abbrev pub decided : Bool → Bool → Walked
+decided fits near = cond fits (cond near Made Far) Full
+
+-- by the marks of the met room
 unfoldable pub settleOf : ℕ → List ℕ → List ℕ → Walked
-settleOf w counts met =
-    let near : Walked = cond (noneFar met) Made Far in
-    cond (fitsAll w counts met) near Full
+settleOf w counts met = decided (fitsAll w counts met) (noneFar met)
 
 -- either the whole walk is made or rows and counts stay
 unfoldable pub ifMade : Walked → List ℕ → List ℕ → List ℕ
@@ -105,11 +101,9 @@ unfoldable pub walkNear : ℕ → ℕ → List ℕ → List ℕ → List ℕ →
 walkNear n w S L labels counts hub =
     not (some (λ v. kept n w S L labels counts hub v && ltb 4095 (levelOf n w S L labels counts hub v)) 0 n)
 
--- the whole walk, or which of the two stands against it
+-- the same by levels: the whole walk, or which of the two stands against it
 unfoldable pub walkOf : ℕ → ℕ → List ℕ → List ℕ → List ℕ → List ℕ → ℕ → Walked
-walkOf n w S L labels counts hub =
-    let near : Walked = cond (walkNear n w S L labels counts hub) Made Far in
-    cond (walkFits n w S L labels counts hub) near Full
+walkOf n w S L labels counts hub = decided (walkFits n w S L labels counts hub) (walkNear n w S L labels counts hub)
 
 -- a block, sound rows that the rooms hold and nothing else, work rooms 0
 pub record WalkIn (n w : ℕ) (S L labels counts : List ℕ) (hub : ℕ) (met queue noted : List ℕ) : Type 0 where

@@ -7,15 +7,19 @@ use lib.ListN.{getD}
 use lib.Dec.{leb, ltb}
 use Rattle.basics.specs.Places.{some, table}
 use Rattle.theory.specs.Distance.{far}
-use Rattle.theory.specs.Rows.{answer}
+use Rattle.theory.specs.Rows.{Row, answer}
 use Rattle.theory.specs.Walk.{levels}
 use Rattle.theory.specs.Plain.{joined}
 use Rattle.rows.specs.Entry.{decode}
 use Rattle.rows.specs.Rooms.{rowAt}
 
+-- the rows that a label room and a count room hold
+unfoldable pub rowsIn : ℕ → List ℕ → List ℕ → ℕ → Row
+rowsIn w labels counts v = decode (rowAt w labels counts v)
+
 -- the answer for (hub, u) from the rows so far
 unfoldable pub soFar : ℕ → ℕ → List ℕ → List ℕ → ℕ → ℕ → ℕ
-soFar n w labels counts hub u = answer (far 1 n) n (decode (rowAt w labels counts hub)) (decode (rowAt w labels counts u))
+soFar n w labels counts hub u = answer (far 1 n) n (rowsIn w labels counts hub) (rowsIn w labels counts u)
 
 -- the level at which the walk of `hub` meets v, and far 1 n where it does not
 unfoldable pub levelOf : ℕ → ℕ → List ℕ → List ℕ → List ℕ → List ℕ → ℕ → ℕ → ℕ

@@ -2,11 +2,11 @@
 // that is kept, and 65,536 more than that for one that is dropped. It only reads the rows, so the table of the hub's joins
 // by rank is good for the whole of it.
 ghost use mathlib.Core.Path.{_≡_};
-ghost use Prim.Native.Nat.{ℕ, _+_, _<_};
+ghost use Prim.Native.Nat.{_+_};
 ghost use lib.ListN.{length, getD};
-ghost use Rattle.rows.specs.Entry.{rankOf};
+ghost use Rattle.rows.specs.Rooms.{rowAt, RowLies};
 ghost use Rattle.build.specs.Walk.{metRoom};
-ghost use Rattle.build.specs.Explore.{within, notedBy, forgotten, drops, DropIn, MeetIn, Grown};
+ghost use Rattle.build.specs.Explore.{RanksIn, within, noteOf, notedBy, drops, DropIn, MeetIn, Grown};
 ghost use Rattle.build.specs.Explore.{StepIn, SpreadIn, Bfs, ExploreIn, Queued, Low};
 use rows::entry::Entry;
 use rows::entry::joins_of;
@@ -18,37 +18,43 @@ pub const DROPPED: u32 = 65536;
 // The joins noted for a rank that the hub's row lacks: above every level.
 const LACKING: u32 = 65536;
 
-// Notes the joins of a row by rank.
-fn note(row: &[Entry], noted: &mut [u32])
-    requires { ⌜ ((i : ℕ) → i < length (now row) → rankOf (getD (now row) i 0) < length (now noted)) ⌝ }
-    ensures { λ _. ⌜ now (noted .exit) ≡ notedBy (now (row .entry)) (now (noted .entry)) ⌝ }
+// What is noted for an entry: its joins, or LACKING where its rank is forgotten.
+fn note_of(e: Entry, forget: bool) -> u32
+    ensures { λ r. ⌜ r ≡ noteOf forget e ⌝ }
+{
+    if forget {
+        return LACKING;
+    }
+    joins_of(e) as u32
+}
+
+// Notes the joins of a row by rank, or forgets them again.
+fn note(row: &[Entry], forget: bool, noted: &mut [u32])
+    requires { ⌜ RanksIn (now row) (now noted) ⌝ }
+    ensures { λ _. ⌜ now (noted .exit) ≡ notedBy forget (now (row .entry)) (now (noted .entry)) ⌝ }
 {
     let mut i = 0;
     while i < row.len() {
         let e = row[i];
         let rank = rank_of(e);
-        noted[rank] = joins_of(e) as u32;
+        noted[rank] = note_of(e, forget);
         i += 1;
     }
 }
 
-// Takes the ranks of a row out of the notes again.
-fn forget(row: &[Entry], noted: &mut [u32])
-    requires { ⌜ ((i : ℕ) → i < length (now row) → rankOf (getD (now row) i 0) < length (now noted)) ⌝ }
-    ensures { λ _. ⌜ now (noted .exit) ≡ forgotten (now (row .entry)) (now (noted .entry)) ⌝ }
+// The row of v in the label room.
+fn row_of<'a, 'b>(w: usize, labels: &'a [Entry], counts: &'b [u32], v: usize) -> &'a [Entry]
+    requires { ⌜ RowLies w (now labels) (now counts) v ⌝ }
+    ensures { λ r. ⌜ now r ≡ rowAt w (now (labels .entry)) (now (counts .entry)) v ⌝ }
 {
-    let mut i = 0;
-    while i < row.len() {
-        let e = row[i];
-        let rank = rank_of(e);
-        noted[rank] = LACKING;
-        i += 1;
-    }
+    let start = v * w;
+    let end = start + counts[v] as usize;
+    &labels[start..end]
 }
 
 // Whether a row and the noted one have an answer of at most `level`. A rank that is not noted gives a sum above it.
 fn near(row: &[Entry], noted: &[u32], level: usize) -> bool
-    requires { ⌜ ((i : ℕ) → i < length (now row) → rankOf (getD (now row) i 0) < length (now noted)) ⌝ }
+    requires { ⌜ RanksIn (now row) (now noted) ⌝ }
     ensures { λ r. ⌜ r ≡ within (now (noted .entry)) (now (row .entry)) level ⌝ }
 {
     let mut i = 0;
@@ -108,9 +114,8 @@ fn dropped(
     requires { ⌜ DropIn (length (now counts)) w (now labels) (now counts) (now noted) u ⌝ }
     ensures { λ r. ⌜ r ≡ drops w (now (labels .entry)) (now (counts .entry)) (now (noted .entry)) u level ⌝ }
 {
-    let start = u * w;
-    let end = start + counts[u] as usize;
-    near(&labels[start..end], noted, level)
+    let row = row_of(w, labels, counts, u);
+    near(row, noted, level)
 }
 
 // The frame at `head`: dropped, it gets its mark; else its neighbours that are not met yet are met one level on.
@@ -215,11 +220,9 @@ pub fn explore(
     ensures frames { λ r. ⌜ Queued (now (met .exit)) (now (queue .exit)) r ⌝ }
     ensures low { λ r. ⌜ Low (now (met .exit)) r ⌝ }
 {
-    let start = hub * w;
-    let end = start + counts[hub] as usize;
-    let own = &labels[start..end];
-    note(own, noted);
+    let own = row_of(w, labels, counts, hub);
+    note(own, false, noted);
     let tail = spread(w, starts, places, labels, counts, noted, hub, met, queue);
-    forget(own, noted);
+    note(own, true, noted);
     tail
 }

@@ -9,14 +9,14 @@ ghost use Rattle.build.specs.Build.{buildSizes, buildRooms, buildTests};
 pub fn sizes_fit(n: usize, w: usize, k: usize, places: usize) -> bool
     ensures { λ r. ⌜ r ≡ buildSizes n w k places ⌝ }
 {
-    let sizes = rows::rooms::sizes_fit(n, w);
+    let sizes = refusal::sizes::sizes_fit(n, w);
     if !sizes {
         return false;
     }
     if n < k {
         return false;
     }
-    places <= 65536
+    refusal::sizes::places_fit(places)
 }
 
 // Every room has its exact length.

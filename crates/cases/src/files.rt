@@ -1,36 +1,35 @@
 // The files 00, 01 and so on up to the first that is not there: each one's name, what the listing gives, and the place where
 // the reader refuses it.
-ghost use mathlib.Core.Path.{_≡_};
-ghost use Prim.Native.Nat.{_<_};
-ghost use lib.ListN.{length};
 use crate::print;
 use file::Opened;
+use listing::FRAMES;
+use listing::TAKEN;
+use listing::WIDTH;
 
 // The place of a refusal.
 fn place(opened: Opened) {
     if let Opened::Refused(refusal) = opened {
-        print::words(b"at ");
-        print::number(refusal.place);
-        print::words(b"\n");
+        print::at(refusal.place);
     }
 }
 
 // Where the header or the reader refuses a file's bytes.
-fn judge(bytes: &[u8], order: &mut [u32], labels: &mut [u32], counts: &mut [u32])
-    requires { ⌜ (length (now order) ≡ 256) × (length (now labels) ≡ 8192) × (length (now counts) ≡ 256) ⌝ }
-{
+fn judge(bytes: &[u8]) {
     let header = file::header(bytes);
     let Opened::Index(n, _) = header else {
         place(header);
         return;
     };
-    if 256 < n {
+    if FRAMES < n {
         return;
     }
-    let places = n * 32;
+    let mut order = [0u32; FRAMES];
+    let mut labels = [0u32; FRAMES * WIDTH];
+    let mut counts = [0u32; FRAMES];
+    let places = n * WIDTH;
     let answer = file::read(
         bytes,
-        32,
+        WIDTH,
         &mut order[..n],
         &mut labels[..places],
         &mut counts[..n],
@@ -40,12 +39,9 @@ fn judge(bytes: &[u8], order: &mut [u32], labels: &mut [u32], counts: &mut [u32]
 
 // Where the reader refuses what a descriptor gives.
 fn refusals(input: i32) {
-    let mut bytes = [0u8; 25253];
+    let mut bytes = [0u8; TAKEN];
     let taken = io::read_full(input, &mut bytes);
-    let mut order = [0u32; 256];
-    let mut labels = [0u32; 8192];
-    let mut counts = [0u32; 256];
-    judge(&bytes[..taken], &mut order, &mut labels, &mut counts);
+    judge(&bytes[..taken]);
 }
 
 // One file; whether it is there.

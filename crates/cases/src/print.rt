@@ -15,13 +15,19 @@ pub fn byte(b: u8) {
     io::print_hex(1, b as u64, 2);
 }
 
+// A place, at a line's end.
+pub fn at(place: usize) {
+    words(b"at ");
+    number(place);
+    words(b"\n");
+}
+
 // A refusal, by its number and its place.
 pub fn refused(refusal: Refusal) {
     let number_given = refusal.number as usize;
     let place = refusal.place;
     words(b"refused ");
     number(number_given);
-    words(b" at ");
-    number(place);
-    words(b"\n");
+    words(b" ");
+    at(place);
 }

@@ -1,5 +1,4 @@
 // 'Checked by hand', the cases without a star.
-ghost use mathlib.Core.Path.{_≡_};
 ghost use Prim.Native.Nat.{_*_, _≤_};
 ghost use lib.ListN.{length};
 use crate::print;
@@ -19,6 +18,34 @@ fn built(answer: Built) {
     }
 }
 
+// A build with every hub. The work rooms are its own.
+fn whole(
+    n: usize,
+    w: usize,
+    starts: &[u32],
+    places: &[u32],
+    order: &[u32],
+    labels: &mut [u32],
+    counts: &mut [u32],
+) -> Built
+    requires { ⌜ n ≤ 4097 ⌝ }
+{
+    let mut met = [0u32; 4097];
+    let mut queue = [0u32; 4097];
+    build::build(
+        n,
+        w,
+        n,
+        starts,
+        places,
+        order,
+        labels,
+        counts,
+        &mut met[..n],
+        &mut queue[..n],
+    )
+}
+
 // The chain 0-1-2-3: its file has 39 bytes.
 fn chain() {
     let starts = [0u32, 1, 3, 5, 6];
@@ -26,20 +53,7 @@ fn chain() {
     let order = [1u32, 2, 0, 3];
     let mut labels = [0u32; 12];
     let mut counts = [0u32; 4];
-    let mut met = [0u32; 4];
-    let mut queue = [0u32; 4];
-    build::build(
-        4,
-        3,
-        4,
-        &starts,
-        &places,
-        &order,
-        &mut labels,
-        &mut counts,
-        &mut met,
-        &mut queue,
-    );
+    whole(4, 3, &starts, &places, &order, &mut labels, &mut counts);
     let mut out = [0u8; 64];
     let written = file::write(4, 3, 4, &order, &labels, &counts, &mut out, 0);
     if let Written::Bytes(size) = written {
@@ -56,20 +70,7 @@ fn apart() {
     let order = [0u32, 1, 2];
     let mut labels = [0u32; 6];
     let mut counts = [0u32; 3];
-    let mut met = [0u32; 3];
-    let mut queue = [0u32; 3];
-    build::build(
-        3,
-        2,
-        3,
-        &starts,
-        &places,
-        &order,
-        &mut labels,
-        &mut counts,
-        &mut met,
-        &mut queue,
-    );
+    whole(3, 2, &starts, &places, &order, &mut labels, &mut counts);
     let answer = rows::pair::pair(3, 2, &labels, &counts, 2, 2);
     if let Answer::Joins(joins) = answer {
         print::words(b"three frames, link 0-1, k = 3: pair (2,2) ");
@@ -111,37 +112,6 @@ fn count_up(order: &mut [u32])
 }
 
 // n frames with no link, rooms cut for n and w, built whole.
-fn cut(
-    n: usize,
-    w: usize,
-    starts: &[u32],
-    order: &[u32],
-    labels: &mut [u32],
-    counts: &mut [u32],
-    met: &mut [u32],
-    queue: &mut [u32],
-)
-    requires { ⌜ (n ≤ 4097) × (n * w ≤ 4097) ⌝ }
-    requires { ⌜ (length (now starts) ≡ 4098) × (length (now order) ≡ 4097) × (length (now labels) ≡ 4097) ⌝ }
-    requires { ⌜ (length (now counts) ≡ 4097) × (length (now met) ≡ 4097) × (length (now queue) ≡ 4097) ⌝ }
-{
-    let places = n * w;
-    let ends = n + 1;
-    let answer = build::build(
-        n,
-        w,
-        n,
-        &starts[..ends],
-        &starts[..0],
-        &order[..n],
-        &mut labels[..places],
-        &mut counts[..n],
-        &mut met[..n],
-        &mut queue[..n],
-    );
-    built(answer);
-}
-
 fn unlinked(n: usize, w: usize)
     requires { ⌜ (n ≤ 4097) × (n * w ≤ 4097) ⌝ }
 {
@@ -149,19 +119,19 @@ fn unlinked(n: usize, w: usize)
     let mut order = [0u32; 4097];
     let mut labels = [0u32; 4097];
     let mut counts = [0u32; 4097];
-    let mut met = [0u32; 4097];
-    let mut queue = [0u32; 4097];
     count_up(&mut order);
-    cut(
+    let ends = n + 1;
+    let places = n * w;
+    let answer = whole(
         n,
         w,
-        &starts,
-        &order,
-        &mut labels,
-        &mut counts,
-        &mut met,
-        &mut queue,
+        &starts[..ends],
+        &[],
+        &order[..n],
+        &mut labels[..places],
+        &mut counts[..n],
     );
+    built(answer);
 }
 
 // Link 0-0: LINKS at 0.

@@ -24,7 +24,7 @@ fn main() {
     let mut places = [0u32; 1024];
     let mut order = [0u32; 256];
     survey::hubs(&mut order);
-    let links = survey::links(&mut starts, &mut places);
+    let end = survey::links(&mut starts, &mut places);
     let mut labels = [0u32; 8192];
     let mut counts = [0u32; 256];
     let mut met = [0u32; 256];
@@ -34,7 +34,7 @@ fn main() {
         32,
         256,
         &starts,
-        &places[..links],
+        &places[..end],
         &order,
         &mut labels,
         &mut counts,

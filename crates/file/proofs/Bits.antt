@@ -3,7 +3,7 @@ use Prim.Native.Nat.{ℕ, zero, suc, _+_, _-_, _*_, _/_, _%_, _^_, _≤_, _<_}
 use mathlib.Core.Path.{_≡_, refl, sym, ap, ap₂, subst, _∙_}
 use mathlib.Core.List.{List, [], _∷_, _++_}
 use native.Mathlib.Omega.{arith}
-use native.Mathlib.Nat.{mod-one, div-eq-of-lt, suc-add, zero-add, mul-zero, add-assoc, mul-assoc, mul-comm, mod-lt, mod-eq-of-lt, sub-zero, sub-self, div-one, le-refl}
+use native.Mathlib.Nat.{mod-one, div-eq-of-lt, zero-add, mul-zero, add-assoc, mul-assoc, mul-comm, mod-lt, mod-eq-of-lt, sub-zero, sub-self, div-one, le-refl}
 use lib.ListN.{length, getD, take, drop, length-append, take-append-drop}
 use lib.Seq.{length-take-le, take-suc, getD-drop}
 use lib.Pow.{pow-pos, pow-add, split, high, low, field, shr-shr, mod-mod-pow, mod-pow-add}
@@ -89,13 +89,14 @@ window x k t w h =
     ap (λ (y : ℕ). y / 2 ^ t % 2 ^ w) a ∙ ap (λ (y : ℕ). y % 2 ^ w) (field x (k - t) t ∙ b) ∙ mod-mod-pow (x / 2 ^ t) (k - t - w) w
 
 -- the last m bits of the first i bytes, and one byte more behind them
-pub gather-step : (s : List ℕ) (i m : ℕ) → Bytes s → i < length s →
-    upTo s (8 * i) % 2 ^ m * 256 + getD s i 0 ≡ upTo s (8 * i + 8) % 2 ^ (m + 8)
-gather-step s i m b h =
-    let x : ℕ = upTo s (8 * i) in
-    let e : upTo s (8 * i + 8) ≡ x * 2 ^ 8 + getD s i 0 = upTo-byte s i b h in
-    sym (ap (λ (y : ℕ). y % 2 ^ (m + 8)) e ∙ mod-pow-add (x * 2 ^ 8 + getD s i 0) m 8
-    ∙ ap₂ (λ (y z : ℕ). y % 2 ^ m * 2 ^ 8 + z) (high x 8 (b i)) (low x 8 (b i)))
+pub gather-step : (s : List ℕ) (i j m x : ℕ) → Bytes s → j ≡ i + 1 → i < length s → x ≡ upTo s (8 * i) % 2 ^ m →
+    x * 256 + getD s i 0 ≡ upTo s (8 * j) % 2 ^ (m + 8)
+gather-step s i j m x b n h e =
+    let y : ℕ = upTo s (8 * i) in
+    let next : upTo s (8 * j) ≡ y * 2 ^ 8 + getD s i 0 = ap (upTo s) (omega arith) ∙ upTo-byte s i b h in
+    ap (λ (z : ℕ). z * 256 + getD s i 0) e
+    ∙ sym (ap (λ (z : ℕ). z % 2 ^ (m + 8)) next ∙ mod-pow-add (y * 2 ^ 8 + getD s i 0) m 8
+    ∙ ap₂ (λ (z t : ℕ). z % 2 ^ m * 2 ^ 8 + t) (high y 8 (b i)) (low y 8 (b i)))
 
 -- the field of w bits from p on stands in the last m bits of the first i bytes
 pub gathered : (s : List ℕ) (i m p w : ℕ) → i ≤ length s → p + w ≤ 8 * i → 8 * i ≤ p + m →
@@ -163,12 +164,6 @@ unfolding bytesOf
 bytesOf-length zero x = refl
 bytesOf-length (suc m) x = ap suc (bytesOf-length m x)
 
-pub bytesOf-bytes : (m x : ℕ) → Bytes (bytesOf m x)
-unfolding bytesOf
-bytesOf-bytes zero x i = omega arith
-bytesOf-bytes (suc m) x zero = mod-lt (x / 2 ^ (8 * m)) (pow-pos 8)
-bytesOf-bytes (suc m) x (suc i) = bytesOf-bytes m x i
-
 pub bytesOf-val : (m x : ℕ) → val (bytesOf m x) ≡ x % 2 ^ (8 * m)
 unfolding bytesOf val
 bytesOf-val zero x = sym (mod-one x)
@@ -197,16 +192,3 @@ val-bytes (b ∷ bs) h =
     ap₂ (λ (x : ℕ) (t : List ℕ). x ∷ t)
     (ap (λ (x : ℕ). x % 256) (high b (8 * l) v) ∙ mod-eq-of-lt (h 0))
     (bytesOf-mod l l (b * 2 ^ (8 * l) + val bs) (val bs) (le-refl l) e ∙ val-bytes bs (bytes-tail b bs h))
-
--- the first bytes of a longer number
-pub bytesOf-append : (m j x y : ℕ) → y < 2 ^ (8 * j) → bytesOf (m + j) (x * 2 ^ (8 * j) + y) ≡ bytesOf m x ++ bytesOf j y
-unfolding bytesOf
-bytesOf-append zero j x y h =
-    ap (λ (k : ℕ). bytesOf k (x * 2 ^ (8 * j) + y)) (zero-add j)
-    ∙ bytesOf-mod j j (x * 2 ^ (8 * j) + y) y (le-refl j) (low x (8 * j) h ∙ sym (mod-eq-of-lt h))
-bytesOf-append (suc m) j x y h =
-    let X : ℕ = x * 2 ^ (8 * j) + y in
-    let e : X / 2 ^ (8 * (m + j)) ≡ x / 2 ^ (8 * m) =
-    ap (λ (k : ℕ). X / 2 ^ k) (omega arith) ∙ sym (shr-shr X (8 * j) (8 * m)) ∙ ap (λ (z : ℕ). z / 2 ^ (8 * m)) (high x (8 * j) h) in
-    let f : bytesOf (suc m + j) X ≡ X / 2 ^ (8 * (m + j)) % 256 ∷ bytesOf (m + j) X = ap (λ (k : ℕ). bytesOf k X) (suc-add m j) in
-    f ∙ ap₂ (λ (a : ℕ) (l : List ℕ). a % 256 ∷ l) e (bytesOf-append m j x y h)

@@ -10,7 +10,7 @@ use lib.Seq.{take-suc-set, drop-set-lt}
 use lib.Pow.{pow-pos, pow-add, mod-pow-add}
 use lib.Arith.{digits-lt}
 use Rattle.file.specs.declared.put.Pen.{Pen}
-use Rattle.file.specs.Bits.{Field, val, bitLen, num}
+use Rattle.file.specs.Bits.{Field, val, bitLen, num, Legal}
 use Rattle.file.specs.Pen.{penBits, penNum, Ready, Put}
 use Rattle.file.proofs.Bits.{val-append, num-split, num-lt}
 use Rattle.file.proofs.Pen.{drop-later}
@@ -81,13 +81,18 @@ module _ {o : List ℕ} {p : Pen} {fs : List Field} (r : Ready o p fs) (L : ℕ)
   -- fewer than eight bits are left
   pub byte-end : {whole : ℕ} {o1 : List ℕ} {at acc nb : ℕ} → BytesLeft o (num (penNum o p) fs) (penBits p + L) whole o1 at nb →
       nb < 8 → acc ≡ whole % 2 ^ nb → Put o p fs o1 (record { at = at; acc = acc; nb = nb })
-  unfolding penNum
+  unfolding penNum bitLen num Legal
   byte-end {whole} {o1} {at} {acc} {nb} s h e =
       record {
-        small = h;
-        below = subst (λ (y : ℕ). y < 2 ^ nb) (sym e) (mod-lt whole (pow-pos nb));
+        ready =
+            record {
+              small = h;
+              below = subst (λ (y : ℕ). y < 2 ^ nb) (sym e) (mod-lt whole (pow-pos nb));
+              space = omega (arith, s .bits, s .inside);
+              legal = tt;
+            };
         bits = omega (arith, s .bits);
         number = ap (λ (y : ℕ). val (take at o1) * 2 ^ nb + y) e ∙ s .number;
         long = s .long;
-        rest = s .rest;
+        keep = s .rest;
       }

@@ -1,37 +1,32 @@
 -- The laws of the reader's tests, one field after another: where a test stops, where it goes on, where it ends.
 use Prim.Native.Nat.{ℕ, zero, suc, _+_, _-_, _*_, _≤_, _<_}
 use mathlib.Core.Path.{_≡_, refl, sym, ap, ap₂, _∙_}
-use mathlib.Core.Bool.{Bool, true, false, _&&_}
+use mathlib.Core.Bool.{true, false}
 use mathlib.Core.List.{List}
 use native.Mathlib.Omega.{arith}
 use native.Mathlib.Numerals.{add-one}
-use lib.ListN.{length, getD, set, replicate, length-set, length-replicate, getD-replicate}
+use lib.ListN.{length}
 use lib.Dec.{leb, ltb}
-use borrow.Author.Tests.{le-leb, lt-leb, lt-ltb, le-ltb, leb-true, eq-eqb, ne-eqb}
-use Rattle.basics.proofs.Laws.{both, not-of-true, not-of-false, less-one, at-set}
+use borrow.Author.Tests.{le-leb, lt-leb, lt-ltb, leb-true, eq-eqb, ne-eqb}
+use Rattle.basics.proofs.Laws.{both, both-true, not-of-true, not-of-false, of-not-true, less-one}
 use Rattle.refusal.specs.Numbers.{ROOM, FIELD, LONG}
 use Rattle.refusal.specs.Tests.{refusal}
 use Rattle.refusal.specs.declared.Refusal.{Refusal}
 use Rattle.refusal.specs.declared.Verdict.{Verdict}
 use Rattle.refusal.proofs.Laws.{test-fine, test-refused, test-held, then-fine, after-fine, after-refused}
 use Rattle.links.specs.Order.{stands}
-use Rattle.links.proofs.Order.{rank-out, rank-again, rank-sound, stands-none, stands-this, stands-other}
+use Rattle.links.proofs.Order.{rank-again, rank-sound, sound-inside}
 use Rattle.file.specs.Bits.{fieldAt, byteLen, padLen}
 use Rattle.file.specs.Reader.{shortTest, fieldTest, frameAt, orderFieldTest, orderFrom, entryTest, entriesFrom, rowTest, behind, whole, goOn, rowsFrom, rowsOf, endTest, bodyTest}
-use Rattle.file.specs.Steps.{Seen}
-use Rattle.file.proofs.Steps.{field-fine, field-refused, field-short, field-there, field-legal}
+use Rattle.file.proofs.Steps.{field-fine, field-refused, field-more, field-there}
 
 -- ---- the order
 
 module _ (s : List ℕ) (n r : ℕ) where
-  pub order-short : {f : Refusal} → shortTest s (32 + 12 * r) 12 ≡ Verdict.Refused f → orderFieldTest s n r ≡ Verdict.Refused f
+  pub order-out : {f : Refusal} → fieldTest s (32 + 12 * r) 12 (ltb (frameAt s r) n) ≡ Verdict.Refused f
+      → orderFieldTest s n r ≡ Verdict.Refused f
   unfolding orderFieldTest
-  order-short e = field-short s _ 12 _ e
-
-  pub order-out : shortTest s (32 + 12 * r) 12 ≡ Verdict.Fine → n ≤ frameAt s r
-      → orderFieldTest s n r ≡ Verdict.Refused (refusal FIELD (32 + 12 * r))
-  unfolding orderFieldTest
-  order-out e h = field-refused s _ 12 e (not-of-true (rank-out n (frameAt s) r h))
+  order-out e = field-more s _ 12 _ _ (λ h. lt-ltb _ _ (sound-inside n (frameAt s) r (of-not-true _ h))) e
 
   pub order-again : shortTest s (32 + 12 * r) 12 ≡ Verdict.Fine → stands (frameAt s) r (frameAt s r) ≡ true
       → orderFieldTest s n r ≡ Verdict.Refused (refusal FIELD (32 + 12 * r))
@@ -56,68 +51,28 @@ module _ (s : List ℕ) (n r : ℕ) where
   unfolding orderFrom
   order-end h = let none : n - r ≡ 0 = omega arith in ap (orderFrom s n r) none
 
--- no frame stands below rank 0
-pub seen-none : (s : List ℕ) → Seen s (replicate 4096 false) 0
-seen-none s =
-    record {
-      long = length-replicate 4096 false;
-      has = λ v low. getD-replicate 4096 v false false low ∙ sym (stands-none (frameAt s) v);
-    }
-
--- what the flags say of the next frame
-pub seen-says : {s : List ℕ} {seen : List Bool} {r v : ℕ} {b : Bool} → Seen s seen r → v ≡ frameAt s r → v < 4096
-    → getD seen v false ≡ b → stands (frameAt s) r (frameAt s r) ≡ b
-seen-says {s} {seen} {r} {v} h e small q = ap (stands (frameAt s) r) (sym e) ∙ sym (h .has v small) ∙ q
-
--- the frame of a legal field is seen from now on
-pub seen-on : {s : List ℕ} {seen : List Bool} {r v : ℕ} → Seen s seen r → v ≡ frameAt s r → v < 4096
-    → Seen s (set seen v true) (r + 1)
-seen-on {s} {seen} {r} {v} h e small =
-    record {
-      long = length-set seen v true ∙ h .long;
-      has = λ u low.
-          at-set seen v u true false (stands (frameAt s) (r + 1) u) (omega (arith, h .long))
-          (λ q. sym (stands-this (frameAt s) r u (q ∙ e)))
-          (λ q. h .has u low ∙ sym (stands-other (frameAt s) r u (λ i. q (i ∙ sym e))));
-    }
-
 -- ---- one entry, and the entries of a row
 
 module _ (s : List ℕ) (n k p low : ℕ) where
-  pub entry-rank : {f : Refusal} → shortTest s p 12 ≡ Verdict.Refused f → entryTest s n k p low ≡ Verdict.Refused f
+  pub entry-rank : {f : Refusal} → fieldTest s p 12 (ltb (fieldAt s p 12) k) ≡ Verdict.Refused f
+      → entryTest s n k p low ≡ Verdict.Refused f
   unfolding entryTest
-  entry-rank e = after-refused _ (field-short s p 12 _ e)
+  entry-rank e = after-refused _ (field-more s p 12 _ _ (λ h. both-true (leb low (fieldAt s p 12)) _ h .1) e)
 
   pub entry-low : shortTest s p 12 ≡ Verdict.Fine → fieldAt s p 12 < low
       → entryTest s n k p low ≡ Verdict.Refused (refusal FIELD p)
   unfolding entryTest
   entry-low e h = after-refused _ (field-refused s p 12 e (rw (lt-leb low (fieldAt s p 12) h)))
 
-  pub entry-high : shortTest s p 12 ≡ Verdict.Fine → low ≤ fieldAt s p 12 → k ≤ fieldAt s p 12
-      → entryTest s n k p low ≡ Verdict.Refused (refusal FIELD p)
+  -- behind a legal rank the joins are left
+  pub entry-left : shortTest s p 12 ≡ Verdict.Fine → low ≤ fieldAt s p 12 → fieldAt s p 12 < k
+      → entryTest s n k p low ≡ fieldTest s (p + 12) 12 (ltb (fieldAt s (p + 12) 12) n)
   unfolding entryTest
-  entry-high e h g =
-      after-refused _ (field-refused s p 12 e (rw (le-leb low (fieldAt s p 12) h, le-ltb (fieldAt s p 12) k g)))
-
-  rank-legal : shortTest s p 12 ≡ Verdict.Fine → low ≤ fieldAt s p 12 → fieldAt s p 12 < k
-      → fieldTest s p 12 (leb low (fieldAt s p 12) && ltb (fieldAt s p 12) k) ≡ Verdict.Fine
-  rank-legal e h g = field-fine s p 12 e (both _ _ (le-leb _ _ h) (lt-ltb _ _ g))
-
-  pub entry-joins : {f : Refusal} → shortTest s p 12 ≡ Verdict.Fine → low ≤ fieldAt s p 12 → fieldAt s p 12 < k
-      → shortTest s (p + 12) 12 ≡ Verdict.Refused f → entryTest s n k p low ≡ Verdict.Refused f
-  unfolding entryTest
-  entry-joins e h g j = after-fine _ (rank-legal e h g) ∙ field-short s _ 12 _ j
-
-  pub entry-far : shortTest s p 12 ≡ Verdict.Fine → low ≤ fieldAt s p 12 → fieldAt s p 12 < k
-      → shortTest s (p + 12) 12 ≡ Verdict.Fine → n ≤ fieldAt s (p + 12) 12
-      → entryTest s n k p low ≡ Verdict.Refused (refusal FIELD (p + 12))
-  unfolding entryTest
-  entry-far e h g j l = after-fine _ (rank-legal e h g) ∙ field-refused s _ 12 j (le-ltb _ _ l)
+  entry-left e h g = after-fine _ (field-fine s p 12 e (both _ _ (le-leb _ _ h) (lt-ltb _ _ g)))
 
   pub entry-legal : shortTest s p 12 ≡ Verdict.Fine → low ≤ fieldAt s p 12 → fieldAt s p 12 < k
       → shortTest s (p + 12) 12 ≡ Verdict.Fine → fieldAt s (p + 12) 12 < n → entryTest s n k p low ≡ Verdict.Fine
-  unfolding entryTest
-  entry-legal e h g j l = after-fine _ (rank-legal e h g) ∙ field-fine s _ 12 j (lt-ltb _ _ l)
+  entry-legal e h g j l = entry-left e h g ∙ field-fine s _ 12 j (lt-ltb _ _ l)
 
   pub entries-stop : (left : ℕ) {f : Refusal} → 0 < left → entryTest s n k p low ≡ Verdict.Refused f
       → entriesFrom s n k p low left ≡ Verdict.Refused f
@@ -141,13 +96,10 @@ module _ (s : List ℕ) (n k p low : ℕ) where
 -- ---- one row, and all rows
 
 module _ (s : List ℕ) (n k w v p : ℕ) where
-  pub row-short : {f : Refusal} → shortTest s p 9 ≡ Verdict.Refused f → rowTest s n k w v p ≡ Verdict.Refused f
+  pub row-count : {f : Refusal} → fieldTest s p 9 (ltb (fieldAt s p 9) 257) ≡ Verdict.Refused f
+      → rowTest s n k w v p ≡ Verdict.Refused f
   unfolding rowTest
-  row-short e = after-refused _ (field-short s p 9 _ e)
-
-  pub row-count : shortTest s p 9 ≡ Verdict.Fine → 256 < fieldAt s p 9 → rowTest s n k w v p ≡ Verdict.Refused (refusal FIELD p)
-  unfolding rowTest
-  row-count e h = after-refused _ (field-refused s p 9 e (lt-leb _ _ h))
+  row-count e = after-refused _ (field-more s p 9 _ _ (λ h. lt-ltb (fieldAt s p 9) 257 (omega (arith, leb-true (fieldAt s p 9) 256 h))) e)
 
   pub row-room : shortTest s p 9 ≡ Verdict.Fine → fieldAt s p 9 ≤ 256 → w < fieldAt s p 9
       → rowTest s n k w v p ≡ Verdict.Refused (refusal ROOM v)
@@ -163,10 +115,6 @@ module _ (s : List ℕ) (n k w v p : ℕ) where
       ∙ ap (entriesFrom s n k (p + 9) 0) (sym q)
 
   -- the count of a row that is fine
-  pub row-most : rowTest s n k w v p ≡ Verdict.Fine → fieldAt s p 9 ≤ 256
-  unfolding rowTest
-  row-most e = leb-true _ _ (field-legal s p 9 _ (then-fine _ _ e .0))
-
   pub row-fits : rowTest s n k w v p ≡ Verdict.Fine → fieldAt s p 9 ≤ w
   unfolding rowTest
   row-fits e = leb-true _ _ (test-held _ ROOM v (then-fine _ _ (then-fine _ _ e .1) .0))

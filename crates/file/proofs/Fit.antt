@@ -1,31 +1,29 @@
 -- An index that the writer's tests let through: every value fits its field, every row lies in the label room, and the file
 -- has as many bytes as the paper says.
 use Prim.Native.Nat.{ℕ, _+_, _*_, _/_, _≤_, _<_}
-use mathlib.Core.Path.{_≡_, sym, subst, _∙_}
+use mathlib.Core.Path.{_≡_, _∙_}
 use mathlib.Core.Bool.{true}
-use mathlib.Core.List.{List, _++_}
+use mathlib.Core.List.{List}
 use native.Mathlib.Omega.{arith}
 use borrow.Author.Tests.{le-leb, leb-true}
 use lib.ListN.{length, getD}
 use lib.Dec.{leb}
 use Rattle.basics.specs.Places.{sum}
 use Rattle.basics.proofs.Laws.{both-true, both}
-use Rattle.refusal.specs.Tests.{test, _then_}
+use Rattle.refusal.specs.Sizes.{sizesFit, Sizes}
 use Rattle.refusal.specs.declared.Verdict.the-variants.{Fine}
 use Rattle.refusal.proofs.Laws.{test-fine, test-held, then-fine, after-fine}
 use Rattle.theory.specs.Links.{Order}
-use Rattle.links.specs.Order.{orderTest}
 use Rattle.links.proofs.Order.{order-sound}
-use Rattle.rows.specs.Rooms.{Rooms, sizesFit, rowAt, soundRow, rowsTest}
-use Rattle.rows.proofs.Laws.{Sound, row-sound, row-inside}
-use Rattle.rows.proofs.RoomLaws.{Sizes, sizes-held, sizes-fit, rows-alone, rows-sound, length-row}
+use Rattle.refusal.proofs.SizeLaws.{sizes-fit, sizes-held}
+use Rattle.rows.specs.Rooms.{RowLies, Rooms, rowAt, soundRow}
+use Rattle.rows.proofs.Laws.{Sound, row-sound}
+use Rattle.rows.proofs.RoomLaws.{row-lies, rows-alone, rows-sound, length-row}
 use Rattle.file.specs.Bits.{bitLen, byteLen, Legal}
-use Rattle.file.specs.Layout.{headerFields, orderFields, rowFields, rowsFields, fileFields, fileOf, lengthsFit}
+use Rattle.file.specs.Layout.{headerFields, frameFields, orderFields, pairFields, rowFields, rowsFields, fileFields, fileOf, lengthsFit}
 use Rattle.file.specs.Writer.{indexSizes, writeTests, Fit}
-use Rattle.file.specs.Pen.{RowLies}
-use Rattle.file.proofs.Bits.{bitLen-append}
 use Rattle.file.proofs.Packed.{legal-append, packed-length}
-use Rattle.file.proofs.LayoutLaws.{header-bits, order-bits, rows-bits, order-legal, entries-legal, rows-legal, lengths-fit, fit-lengths}
+use Rattle.file.proofs.LayoutLaws.{each-legal, rows-bits, file-takes, rows-legal, lengths-fit, fit-lengths}
 
 -- what 1 and 2 let through
 pub sizes-in : (n k w : ℕ) → indexSizes n k w ≡ true → Sizes n w × (k ≤ n)
@@ -39,33 +37,24 @@ pub rooms-in : (n k w : ℕ) (O labels counts : List ℕ) → indexSizes n k w �
 rooms-in n k w O labels counts a b =
     let (s, stop) = sizes-in n k w a in
     let (o, places, each) = fit-lengths n w (length O) (length labels) (length counts) b in
-    record {
-      some-frames = s .some-frames;
-      frames = s .frames;
-      some-width = s .some-width;
-      width = s .width;
-      places = places;
-      each = each;
-    }
+    record { sizes = s; places = places; each = each }
 
 module _ (n k w : ℕ) (O labels counts : List ℕ) where
   -- what the tests let through
   pub fit : writeTests n k w O labels counts ≡ Fine → Fit n k w O labels counts
   unfolding writeTests
   fit e =
-      let a : (test (indexSizes n k w) 1 0 ≡ Fine)
-      × ((test (lengthsFit n w (length O) (length labels) (length counts)) 2 0 then orderTest n O then rowsTest k n w labels counts) ≡ Fine) = then-fine _ _ e in
-      let b : (test (lengthsFit n w (length O) (length labels) (length counts)) 2 0 ≡ Fine) × ((orderTest n O then rowsTest k n w labels counts) ≡ Fine) =
-      then-fine _ _ (a .1) in
-      let d : (orderTest n O ≡ Fine) × (rowsTest k n w labels counts ≡ Fine) = then-fine _ _ (b .1) in
-      let s : indexSizes n k w ≡ true = test-held _ 1 0 (a .0) in
-      let l : lengthsFit n w (length O) (length labels) (length counts) ≡ true = test-held _ 2 0 (b .0) in
+      let (size, rest) = then-fine _ _ e in
+      let (lengths, rest2) = then-fine _ _ rest in
+      let (once, sound) = then-fine _ _ rest2 in
+      let s : indexSizes n k w ≡ true = test-held _ 1 0 size in
+      let l : lengthsFit n w (length O) (length labels) (length counts) ≡ true = test-held _ 2 0 lengths in
       record {
         rooms = rooms-in n k w O labels counts s l;
         stop = sizes-in n k w s .1;
         long = fit-lengths n w (length O) (length labels) (length counts) l .0;
-        once = d .0;
-        sound = d .1;
+        once = once;
+        sound = sound;
       }
 
   module _ (f : Fit n k w O labels counts) where
@@ -74,8 +63,7 @@ module _ (n k w : ℕ) (O labels counts : List ℕ) where
     unfolding writeTests indexSizes
     fit-fine =
         let r = f .rooms in
-        let sizes : sizesFit n w ≡ true = sizes-fit (r .some-frames) (r .frames) (r .some-width) (r .width) in
-        after-fine _ (test-fine 1 0 (both _ _ sizes (le-leb k n (f .stop))))
+        after-fine _ (test-fine 1 0 (both _ _ (sizes-fit n w (r .sizes)) (le-leb k n (f .stop))))
         ∙ after-fine _ (test-fine 2 0 (lengths-fit n w (length O) (length labels) (length counts) (f .long) (r .places) (r .each)))
         ∙ after-fine _ (f .once) ∙ f .sound
 
@@ -96,29 +84,25 @@ module _ (n k w : ℕ) (O labels counts : List ℕ) where
 
     -- every row lies in the label room
     pub fit-lies : (v : ℕ) → v < n → RowLies w labels counts v
-    fit-lies v h =
-        record {
-          counted = omega (arith, f .rooms .each);
-          lies = subst (λ (m : ℕ). v * w + getD counts v 0 ≤ m) (sym (f .rooms .places)) (row-inside h (fit-count v h));
-        }
+    fit-lies v h = row-lies (f .rooms) v h (fit-count v h)
 
     -- every value fits its field
     row-legal : (v : ℕ) → v < n → Legal (rowFields w labels counts v)
     unfolding Legal rowFields
     row-legal v h =
-        let most : n ≤ 4096 = f .rooms .frames in
+        let most : n ≤ 4096 = f .rooms .sizes .frames in
         let c : getD counts v 0 ≤ w = fit-count v h in
-        let wide : w ≤ 256 = f .rooms .width in
+        let wide : w ≤ 256 = f .rooms .sizes .width in
         let s : Sound k n (rowAt w labels counts v) (getD counts v 0) = fit-row v h in
         let l : length (rowAt w labels counts v) ≡ getD counts v 0 = fit-length v h in
         let stop : k ≤ n = f .stop in
-        (omega arith, entries-legal (rowAt w labels counts v) (λ i b. (omega (arith, s .rank i (omega arith)), omega (arith, s .joins i (omega arith)))))
+        (omega arith, each-legal pairFields (rowAt w labels counts v) (λ i b. (omega (arith, s .rank i (omega arith)), (omega (arith, s .joins i (omega arith)), tt))))
 
     pub fit-legal : Legal (fileFields n k w O labels counts)
     unfolding fileFields Legal headerFields
     fit-legal =
-        let most : n ≤ 4096 = f .rooms .frames in
-        let some : 1 ≤ n = f .rooms .some-frames in
+        let most : n ≤ 4096 = f .rooms .sizes .frames in
+        let some : 1 ≤ n = f .rooms .sizes .some-frames in
         let stop : k ≤ n = f .stop in
         let long : length O ≡ n = f .long in (
           omega arith,
@@ -129,7 +113,7 @@ module _ (n k w : ℕ) (O labels counts : List ℕ) where
               (
                 omega arith,
                 legal-append (orderFields O) (rowsFields w labels counts 0 n)
-                    (order-legal O (λ r h. omega (arith, fit-order .inside r (omega arith))))
+                    (each-legal frameFields O (λ r h. (omega (arith, fit-order .inside r (omega arith)), tt)))
                     (rows-legal w labels counts 0 n (λ u h. row-legal u (omega arith))),
               ),
             ),
@@ -138,17 +122,12 @@ module _ (n k w : ℕ) (O labels counts : List ℕ) where
 
     -- header 32 bits, 12 for each rank, 9 for each count, 24 for each entry
     pub file-bits : bitLen (fileFields n k w O labels counts) ≡ 32 + 21 * n + 24 * sum counts
-    unfolding fileFields
     file-bits =
         let each : length counts ≡ n = f .rooms .each in
         let long : length O ≡ n = f .long in
-        let a : bitLen (headerFields n k ++ (orderFields O ++ rowsFields w labels counts 0 n))
-        ≡ bitLen (headerFields n k) + bitLen (orderFields O ++ rowsFields w labels counts 0 n) = bitLen-append (headerFields n k) _ in
-        let b : bitLen (orderFields O ++ rowsFields w labels counts 0 n) ≡ bitLen (orderFields O) + bitLen (rowsFields w labels counts 0 n) =
-        bitLen-append (orderFields O) _ in
         let r : bitLen (rowsFields w labels counts 0 n) ≡ 9 * n + 24 * sum counts =
         rows-bits w labels counts 0 n (omega arith) (λ u h. fit-length u (omega arith)) in
-        omega (arith, header-bits n k, order-bits O)
+        omega (arith, file-takes n k w O labels counts)
 
     -- with E entries the file has 4 + (21n + 24E) / 8 bytes, the quotient rounded up
     pub file-bytes : length (fileOf n k w O labels counts) ≡ 4 + (21 * n + 24 * sum counts + 7) / 8

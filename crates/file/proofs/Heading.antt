@@ -27,10 +27,6 @@ pub opened-refused : {v : Verdict} {r : Refusal} (n k : ℕ) → v ≡ Verdict.R
 unfolding opened
 opened-refused n k e = sym (ap (λ (v : Verdict). opened v n k) e)
 
--- the same answer, the same numbers
-pub answered : {a b : Opened} → a ≡ b → (a ≡ b) × (told a ≡ told b)
-answered e = (e, ap told e)
-
 -- the paper's numbers tell the answers apart, where an index has frames and a refusal a number
 pub told-apart : (a b : Opened) → told a ≡ told b → 0 < told a .number + told a .frames → a ≡ b
 unfolding told

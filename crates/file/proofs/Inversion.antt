@@ -88,36 +88,32 @@ go-on Verdict.Fine v p rest e = (refl, refl)
 go-on (Verdict.Refused r) v p rest e = fine-not-refused (sym e)
 
 module _ (s : List ℕ) (n k w : ℕ) where
-  -- rows that are fine end where `rowBit` says
-  pub rows-bit : (v left : ℕ) → rowsFrom s n k w v (rowBit s n v) left .verdict ≡ Verdict.Fine
-      → rowsFrom s n k w v (rowBit s n v) left ≡ whole (v + left) (rowBit s n (v + left)) Verdict.Fine
+  -- rows that are fine end where `rowBit` says, and each of them is fine
+  rows-run : (v left : ℕ) → rowsFrom s n k w v (rowBit s n v) left .verdict ≡ Verdict.Fine
+      → (rowsFrom s n k w v (rowBit s n v) left ≡ whole (v + left) (rowBit s n (v + left)) Verdict.Fine)
+      × ((u : ℕ) → v ≤ u → u < v + left → rowTest s n k w u (rowBit s n u) ≡ Verdict.Fine)
   unfolding rowsFrom rowBit
-  rows-bit v zero e = ap (λ (u : ℕ). whole u (rowBit s n u) Verdict.Fine) (sym (add-zero v))
-  rows-bit v (suc left) e =
+  rows-run v zero e =
+      (ap (λ (u : ℕ). whole u (rowBit s n u) Verdict.Fine) (sym (add-zero v)), λ u h g. absurd (omega arith))
+  rows-run v (suc left) e =
       let (here, on) = go-on (rowTest s n k w v (rowBit s n v)) v (rowBit s n v) (rowsFrom s n k w (suc v) (rowBit s n (suc v)) left) e in
-      on ∙ rows-bit (suc v) left (sym (ap (λ (x : Whole). x .verdict) on) ∙ e)
-      ∙ ap (λ (u : ℕ). whole u (rowBit s n u) Verdict.Fine) (omega arith)
-
-  -- and each of them is fine
-  pub rows-all : (v left : ℕ) → rowsFrom s n k w v (rowBit s n v) left .verdict ≡ Verdict.Fine
-      → (u : ℕ) → v ≤ u → u < v + left → rowTest s n k w u (rowBit s n u) ≡ Verdict.Fine
-  unfolding rowsFrom rowBit
-  rows-all v zero e u h g = absurd (omega arith)
-  rows-all v (suc left) e u h g =
-      let (here, on) = go-on (rowTest s n k w v (rowBit s n v)) v (rowBit s n v) (rowsFrom s n k w (suc v) (rowBit s n (suc v)) left) e in
-      by-cases (ℕ-discrete v u)
-      (λ (q : v ≡ u). ap (λ (x : ℕ). rowTest s n k w x (rowBit s n x)) (sym q) ∙ here)
-      (λ q. rows-all (suc v) left (sym (ap (λ (x : Whole). x .verdict) on) ∙ e) u (omega arith) (omega arith))
+      let (end, each) = rows-run (suc v) left (sym (ap (λ (x : Whole). x .verdict) on) ∙ e) in (
+        on ∙ end ∙ ap (λ (u : ℕ). whole u (rowBit s n u) Verdict.Fine) (omega arith),
+        λ u h g.
+            by-cases (ℕ-discrete v u)
+            (λ (q : v ≡ u). ap (λ (x : ℕ). rowTest s n k w x (rowBit s n x)) (sym q) ∙ here)
+            (λ q. each u (omega arith) (omega arith)),
+      )
 
   module _ (fine : rowsOf s n k w .verdict ≡ Verdict.Fine) where
     -- all rows end at the bit of the row that would come next, and each is fine
     pub rows-behind : rowsOf s n k w .bit ≡ rowBit s n n
     unfolding rowsOf rowBit
-    rows-behind = ap (λ (x : Whole). x .bit) (rows-bit 0 n fine) ∙ ap (rowBit s n) (zero-add n)
+    rows-behind = ap (λ (x : Whole). x .bit) (rows-run 0 n fine .0) ∙ ap (rowBit s n) (zero-add n)
 
     pub rows-fine : (v : ℕ) → v < n → rowTest s n k w v (rowBit s n v) ≡ Verdict.Fine
     unfolding rowsOf rowBit
-    rows-fine v h = rows-all 0 n fine v (omega arith) (omega arith)
+    rows-fine v h = rows-run 0 n fine .1 v (omega arith) (omega arith)
 
     -- the bytes reach to the end of the order and of each row
     pub bits-there : 4 ≤ length s → orderFrom s n 0 n ≡ Verdict.Fine → (v : ℕ) → v ≤ n → byteLen (rowBit s n v) ≤ length s

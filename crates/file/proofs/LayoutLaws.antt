@@ -1,21 +1,69 @@
 -- The field lists of the layout: how many bits they take, when every value fits its width, and that the same index has the
 -- same file; and the lengths of the rooms.
-use Prim.Native.Nat.{ℕ, zero, suc, _+_, _*_, _<_}
-use mathlib.Core.Path.{_≡_, refl, sym, ap, ap₂, _∙_}
+use Prim.Native.Nat.{ℕ, zero, suc, _+_, _-_, _*_, _≤_, _<_}
+use mathlib.Core.Path.{_≡_, refl, sym, ap, ap₂, subst, _∙_}
 use mathlib.Core.Bool.{true}
 use mathlib.Core.List.{List, [], _∷_, _++_}
 use native.Mathlib.Omega.{arith}
+use native.Mathlib.Nat.{add-zero, zero-add, mul-zero, mul-suc}
+use native.Mathlib.Numerals.{add-one}
 use borrow.Author.Tests.{eq-eqb, eqb-true}
 use lib.ListN.{length, getD, drop, drop-of-length-le}
 use lib.Seq.{drop-cons}
 use Rattle.basics.specs.Places.{sum}
 use Rattle.basics.proofs.Laws.{both, both-true}
-use Rattle.rows.specs.Entry.{rankOf, joinsOf}
 use Rattle.rows.specs.Rooms.{rowAt}
-use Rattle.file.specs.Bits.{Field, field, bitLen, packed, Legal}
-use Rattle.file.specs.Layout.{headerFields, orderFields, entryFields, rowFields, rowsFields, fileFields, fileOf, lengthsFit, Stored, Same}
+use Rattle.file.specs.Bits.{Field, field, bitLen, packed, Legal, Reads}
+use Rattle.file.specs.Layout.{eachOf, headerFields, frameFields, orderFields, pairFields, entryFields, rowFields, rowsFields, fileFields, fileOf, lengthsFit, Stored, Same}
 use Rattle.file.proofs.Bits.{bitLen-append}
-use Rattle.file.proofs.Packed.{legal-append}
+use Rattle.file.proofs.Packed.{legal-append, reads-append, reads-front, reads-back}
+
+-- ---- the fields of each element of a list
+
+module _ (one : ℕ → List Field) where
+  -- those left begin with those of the next element
+  pub each-next : (l : List ℕ) (i : ℕ) → i < length l → eachOf one (drop i l) ≡ one (getD l i 0) ++ eachOf one (drop (i + 1) l)
+  unfolding eachOf
+  each-next l i h = rw (add-one i, drop-cons l i 0 h)
+
+  pub each-end : (l : List ℕ) (i : ℕ) → length l ≤ i → eachOf one (drop i l) ≡ []
+  unfolding eachOf
+  each-end l i h = ap (eachOf one) (drop-of-length-le l h)
+
+  pub each-legal : (l : List ℕ) → ((i : ℕ) → i < length l → Legal (one (getD l i 0))) → Legal (eachOf one l)
+  unfolding Legal eachOf
+  each-legal [] h = tt
+  each-legal (x ∷ xs) h =
+      legal-append (one x) (eachOf one xs) (h 0 (omega arith)) (each-legal xs (λ i l. h (suc i) (omega arith)))
+
+  -- each element takes as many bits
+  module _ (bits : ℕ) (wide : (x : ℕ) → bitLen (one x) ≡ bits) where
+    pub each-bits : (l : List ℕ) → bitLen (eachOf one l) ≡ bits * length l
+    unfolding bitLen eachOf
+    each-bits [] = sym (mul-zero bits)
+    each-bits (x ∷ xs) = bitLen-append (one x) (eachOf one xs) ∙ omega (arith, wide x, each-bits xs, mul-suc bits (length xs))
+
+    on-from : (p x i : ℕ) → p + bitLen (one x) + bits * i ≡ p + bits * suc i
+    on-from p x i = omega (arith, wide x, mul-suc bits i)
+
+    -- element i is read where its bits stand, and a list is read where each element is
+    pub each-found : (s : List ℕ) (p : ℕ) (l : List ℕ) → Reads s p (eachOf one l) → (i : ℕ) → i < length l
+        → Reads s (p + bits * i) (one (getD l i 0))
+    unfolding eachOf
+    each-found s p [] h i b = absurd (omega arith)
+    each-found s p (x ∷ xs) h zero b = rw (mul-zero bits, add-zero p) (reads-front s p (one x) (eachOf one xs) h)
+    each-found s p (x ∷ xs) h (suc i) b =
+        subst (λ (q : ℕ). Reads s q (one (getD xs i 0))) (on-from p x i)
+        (each-found s (p + bitLen (one x)) xs (reads-back s p (one x) (eachOf one xs) h) i (omega arith))
+
+    pub each-reads : (s : List ℕ) (p : ℕ) (l : List ℕ) → ((i : ℕ) → i < length l → Reads s (p + bits * i) (one (getD l i 0)))
+        → Reads s p (eachOf one l)
+    unfolding Reads eachOf
+    each-reads s p [] h = tt
+    each-reads s p (x ∷ xs) h =
+        let first : p + bits * 0 ≡ p = omega (arith, mul-zero bits) in
+        reads-append s p (one x) (eachOf one xs) (subst (λ (q : ℕ). Reads s q (one x)) first (h 0 (omega arith)))
+        (each-reads s (p + bitLen (one x)) xs (λ i b. subst (λ (q : ℕ). Reads s q (one (getD xs i 0))) (sym (on-from p x i)) (h (suc i) (omega arith))))
 
 -- ---- bits
 
@@ -23,20 +71,35 @@ pub header-bits : (n k : ℕ) → bitLen (headerFields n k) ≡ 32
 unfolding bitLen headerFields
 header-bits n k = refl
 
-pub order-bits : (O : List ℕ) → bitLen (orderFields O) ≡ 12 * length O
-unfolding bitLen orderFields
-order-bits [] = refl
-order-bits (v ∷ vs) = omega (arith, order-bits vs)
+pub frame-bits : (v : ℕ) → bitLen (frameFields v) ≡ 12
+unfolding bitLen
+frame-bits v = refl
 
-pub entry-bits : (row : List ℕ) → bitLen (entryFields row) ≡ 24 * length row
-unfolding bitLen entryFields
-entry-bits [] = refl
-entry-bits (e ∷ es) = omega (arith, entry-bits es)
+pub pair-bits : (e : ℕ) → bitLen (pairFields e) ≡ 24
+unfolding bitLen
+pair-bits e = refl
+
+pub order-bits : (O : List ℕ) → bitLen (orderFields O) ≡ 12 * length O
+order-bits O = each-bits frameFields 12 frame-bits O
 
 pub row-bits : (w : ℕ) (labels counts : List ℕ) (v : ℕ) → length (rowAt w labels counts v) ≡ getD counts v 0 →
     bitLen (rowFields w labels counts v) ≡ 9 + 24 * getD counts v 0
 unfolding bitLen rowFields
-row-bits w labels counts v h = omega (arith, entry-bits (rowAt w labels counts v))
+row-bits w labels counts v h = omega (arith, each-bits pairFields 24 pair-bits (rowAt w labels counts v))
+
+module _ (w : ℕ) (labels counts : List ℕ) (n v : ℕ) where
+  -- the rows left begin with that of v
+  pub rows-next : {u : ℕ} → u ≡ suc v → v < n
+      → rowsFields w labels counts v (n - v) ≡ rowFields w labels counts v ++ rowsFields w labels counts u (n - u)
+  unfolding rowsFields
+  rows-next {u} e h =
+      let left : n - v ≡ suc (n - u) = omega arith in
+      ap (rowsFields w labels counts v) left
+      ∙ ap (λ (x : ℕ). rowFields w labels counts v ++ rowsFields w labels counts x (n - u)) (sym e)
+
+  pub rows-end : n ≤ v → rowsFields w labels counts v (n - v) ≡ []
+  unfolding rowsFields
+  rows-end h = let none : n - v ≡ 0 = omega arith in ap (rowsFields w labels counts v) none
 
 -- the rows from v on
 pub rows-bits : (w : ℕ) (labels counts : List ℕ) (v left : ℕ) → v + left ≡ length counts →
@@ -54,18 +117,40 @@ rows-bits w labels counts v (suc left) e h =
     let d : sum (drop v counts) ≡ getD counts v 0 + sum (drop (suc v) counts) = ap sum (drop-cons counts v 0 in-counts) in
     bitLen-append (rowFields w labels counts v) (rowsFields w labels counts (suc v) left) ∙ omega arith
 
+-- the whole layout
+pub file-takes : (n k w : ℕ) (O labels counts : List ℕ)
+    → bitLen (fileFields n k w O labels counts) ≡ 32 + 12 * length O + bitLen (rowsFields w labels counts 0 n)
+unfolding fileFields
+file-takes n k w O labels counts =
+    let rows : List Field = rowsFields w labels counts 0 n in
+    omega (
+      arith,
+      bitLen-append (headerFields n k) (orderFields O ++ rows),
+      header-bits n k,
+      bitLen-append (orderFields O) rows,
+      order-bits O,
+    )
+
+-- rows that stand one behind the other, row v from `bit v` on: those from v on, and the whole layout, end at `bit n`
+module _ (n k w : ℕ) (O labels counts : List ℕ) (bit : ℕ → ℕ) where
+  pub rows-take : ((u : ℕ) → u < n → bit u + bitLen (rowFields w labels counts u) ≡ bit (suc u)) → (v left : ℕ) → v + left ≡ n
+      → bit v + bitLen (rowsFields w labels counts v left) ≡ bit n
+  unfolding rowsFields bitLen
+  rows-take next v zero e = let all : v ≡ n = omega arith in add-zero (bit v) ∙ ap bit all
+  rows-take next v (suc left) e =
+      omega (
+        arith,
+        bitLen-append (rowFields w labels counts v) (rowsFields w labels counts (suc v) left),
+        next v (omega arith),
+        rows-take next (suc v) left (omega arith),
+      )
+
+  pub file-ends : length O ≡ n → bit 0 ≡ 32 + 12 * n
+      → ((u : ℕ) → u < n → bit u + bitLen (rowFields w labels counts u) ≡ bit (suc u))
+      → bitLen (fileFields n k w O labels counts) ≡ bit n
+  file-ends long first next = omega (arith, file-takes n k w O labels counts, rows-take next 0 n (zero-add n))
+
 -- ---- widths
-
-pub order-legal : (O : List ℕ) → ((r : ℕ) → r < length O → getD O r 0 < 4096) → Legal (orderFields O)
-unfolding Legal orderFields
-order-legal [] h = tt
-order-legal (v ∷ vs) h = (h 0 (omega arith), order-legal vs (λ r l. h (suc r) (omega arith)))
-
-pub entries-legal : (row : List ℕ) → ((i : ℕ) → i < length row → (rankOf (getD row i 0) < 4096) × (joinsOf (getD row i 0) < 4096)) →
-    Legal (entryFields row)
-unfolding Legal entryFields
-entries-legal [] h = tt
-entries-legal (e ∷ es) h = (h 0 (omega arith) .0, (h 0 (omega arith) .1, entries-legal es (λ i l. h (suc i) (omega arith))))
 
 pub rows-legal : (w : ℕ) (labels counts : List ℕ) (v left : ℕ) →
     ((u : ℕ) → u < v + left → Legal (rowFields w labels counts u)) → Legal (rowsFields w labels counts v left)

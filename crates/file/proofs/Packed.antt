@@ -1,6 +1,6 @@
 -- Packed fields read back as themselves, and a byte string that reads as these fields, with zero fill, is the fields
 -- packed: the bridge between the writer's bytes and the reader's fields.
-use Prim.Native.Nat.{ℕ, zero, _+_, _-_, _*_, _/_, _%_, _^_, _≤_, _<_}
+use Prim.Native.Nat.{ℕ, _+_, _-_, _*_, _/_, _%_, _^_, _≤_, _<_}
 use mathlib.Core.Path.{_≡_, sym, ap, ap₂, subst, _∙_}
 use mathlib.Core.List.{List, [], _∷_, _++_}
 use native.Mathlib.Omega.{arith}
@@ -8,7 +8,7 @@ use native.Mathlib.Nat.{add-assoc, add-zero, zero-add, mod-eq-of-lt}
 use lib.ListN.{length}
 use lib.Pow.{pow-pos, shl-lt, shl-shr, high, low}
 use Rattle.file.specs.Bits.{val, upTo, fieldAt, Field, bitLen, num, bytesOf, byteLen, padLen, packed, Bytes, Legal, Reads}
-use Rattle.file.proofs.Bits.{upTo-field, upTo-cut, upTo-zero, upTo-all, num-split, num-lt, bytesOf-length, bytesOf-bytes, bytesOf-val, val-bytes}
+use Rattle.file.proofs.Bits.{upTo-field, upTo-cut, upTo-zero, upTo-all, num-split, num-lt, bytesOf-length, bytesOf-val, val-bytes}
 
 -- ---- lengths
 
@@ -16,17 +16,9 @@ pub pad-len : (p : ℕ) → p + padLen p ≡ 8 * byteLen p
 unfolding byteLen padLen
 pad-len p = omega arith
 
-pub pad-lt : (p : ℕ) → padLen p < 8
-unfolding byteLen padLen
-pad-lt p = omega arith
-
 pub packed-length : (fs : List Field) → length (packed fs) ≡ byteLen (bitLen fs)
 unfolding packed
 packed-length fs = bytesOf-length (byteLen (bitLen fs)) (num 0 fs * 2 ^ padLen (bitLen fs))
-
-pub packed-bytes : (fs : List Field) → Bytes (packed fs)
-unfolding packed
-packed-bytes fs = bytesOf-bytes (byteLen (bitLen fs)) (num 0 fs * 2 ^ padLen (bitLen fs))
 
 -- ---- one way: from the number to the fields
 

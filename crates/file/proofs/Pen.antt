@@ -7,17 +7,9 @@ use native.Mathlib.Nat.{add-zero, add-sub-of-le}
 use lib.ListN.{length, drop}
 use lib.Seq.{drop-drop}
 use Rattle.file.specs.Bits.{Field, bitLen, num, Legal}
-use Rattle.file.specs.Pen.{penBits, penNum, Ready, Put}
+use Rattle.file.specs.Pen.{penBits, penNum, Ready, Left, Put}
 use Rattle.file.specs.declared.put.Pen.{Pen}
 use Rattle.file.proofs.Bits.{num-append, bitLen-append}
-
--- from o₀ and p₀ on, where `all` was to be put, the writer has come to o and p and has `rest` left
-pub record Left (o₀ : List ℕ) (p₀ : Pen) (all : List Field) (o : List ℕ) (p : Pen) (rest : List Field) : Type 0 where
-  pub ready : Ready o p rest
-  pub bits : penBits p + bitLen rest ≡ penBits p₀ + bitLen all
-  pub number : num (penNum o p) rest ≡ num (penNum o₀ p₀) all
-  pub long : length o ≡ length o₀
-  pub keep : drop (p .at) o ≡ drop (p .at) o₀
 
 -- what two lists share from a place on they share from any later place on
 pub drop-later : (o o₀ : List ℕ) (a b : ℕ) → a ≤ b → drop a o ≡ drop a o₀ → drop b o ≡ drop b o₀
@@ -53,17 +45,18 @@ module _ {o₀ : List ℕ} {p₀ : Pen} {all : List Field} {o : List ℕ} {p : P
   -- they were put
   pub left-step : {rest : List Field} → Left o₀ p₀ all o p rest → (fs gs : List Field) → rest ≡ fs ++ gs →
       {o1 : List ℕ} {p1 : Pen} → Put o p fs o1 p1 → Left o₀ p₀ all o1 p1 gs
+  unfolding bitLen num
   left-step {rest} s fs gs e {o1} {p1} u =
       let len : bitLen rest ≡ bitLen fs + bitLen gs = ap bitLen e ∙ bitLen-append fs gs in
-      let bits1 : penBits p1 ≡ penBits p + bitLen fs = u .bits in
-      let small1 : p1 .nb < 8 = u .small in
+      let bits1 : penBits p1 ≡ penBits p + bitLen fs = sym (add-zero (penBits p1)) ∙ u .bits in
+      let small1 : p1 .nb < 8 = u .ready .small in
       let space0 : penBits p + bitLen rest ≤ 8 * length o = s .ready .space in
       let long1 : length o1 ≡ length o = u .long in
       record {
         ready =
             record {
-              small = u .small;
-              below = u .below;
+              small = u .ready .small;
+              below = u .ready .below;
               space = omega arith;
               legal = legal-back fs gs (subst Legal e (s .ready .legal));
             };
@@ -71,7 +64,7 @@ module _ {o₀ : List ℕ} {p₀ : Pen} {all : List Field} {o : List ℕ} {p : P
         number =
             ap (λ (x : ℕ). num x gs) (u .number) ∙ sym (num-append (penNum o p) fs gs) ∙ ap (num (penNum o p)) (sym e) ∙ s .number;
         long = u .long ∙ s .long;
-        keep = u .rest ∙ drop-later o o₀ (p .at) (p1 .at) (omega arith) (s .keep);
+        keep = u .keep ∙ drop-later o o₀ (p .at) (p1 .at) (omega arith) (s .keep);
       }
 
   -- the same for one field
@@ -83,14 +76,5 @@ module _ {o₀ : List ℕ} {p₀ : Pen} {all : List Field} {o : List ℕ} {p : P
   next-step {f} {gs} s u = left-step s (f ∷ []) gs refl u
 
   -- nothing is left
-  pub left-end : Left o₀ p₀ all o p [] → Put o₀ p₀ all o p
-  unfolding bitLen num
-  left-end s =
-      record {
-        small = s .ready .small;
-        below = s .ready .below;
-        bits = sym (add-zero (penBits p)) ∙ s .bits;
-        number = s .number;
-        long = s .long;
-        rest = s .keep;
-      }
+  pub left-end : {rest : List Field} → Left o₀ p₀ all o p rest → rest ≡ [] → Put o₀ p₀ all o p
+  left-end s e = subst (Left o₀ p₀ all o p) e s

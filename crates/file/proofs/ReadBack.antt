@@ -1,43 +1,19 @@
 -- The fields of a file, found again where the reader looks for them: header, order, counts and entries.
 use Prim.Native.Nat.{ℕ, zero, suc, _+_, _-_, _*_, _≤_, _<_}
-use mathlib.Core.Path.{_≡_, ap, subst, _∙_}
-use mathlib.Core.List.{List, [], _∷_, _++_}
+use mathlib.Core.Path.{_≡_, refl, sym, ap, subst}
+use mathlib.Core.List.{List, _++_}
 use native.Mathlib.Omega.{arith}
-use native.Mathlib.Nat.{add-zero, sub-zero}
+use native.Mathlib.Nat.{sub-zero}
 use lib.ListN.{length, getD}
 use Rattle.rows.specs.Entry.{rankOf, joinsOf}
 use Rattle.rows.specs.Rooms.{rowAt}
 use Rattle.file.specs.Bits.{Field, fieldAt, bitLen, byteLen, padLen, Reads}
-use Rattle.file.specs.Layout.{headerFields, orderFields, entryFields, rowFields, rowsFields, fileFields, fileOf}
+use Rattle.file.specs.Layout.{headerFields, frameFields, orderFields, pairFields, rowFields, rowsFields, fileFields, fileOf}
 use Rattle.file.specs.Reader.{framesOf, stopOf, frameAt, behind, rowBit, countAt}
 use Rattle.file.specs.Writer.{Fit}
-use Rattle.file.proofs.Bits.{bitLen-append}
 use Rattle.file.proofs.Packed.{reads-front, reads-back, reads-packed, packed-length, packed-fill}
-use Rattle.file.proofs.LayoutLaws.{header-bits, order-bits, row-bits}
+use Rattle.file.proofs.LayoutLaws.{each-found, frame-bits, pair-bits, order-bits, row-bits, rows-next, rows-take, file-ends}
 use Rattle.file.proofs.Fit.{fit-legal, fit-length}
-
--- the order fields from bit p on
-pub order-found : (s : List ℕ) (p : ℕ) (l : List ℕ) → Reads s p (orderFields l) → (r : ℕ) → r < length l →
-    fieldAt s (p + 12 * r) 12 ≡ getD l r 0
-unfolding Reads orderFields
-order-found s p [] h r b = absurd (omega arith)
-order-found s p (v ∷ vs) h zero b = ap (λ (x : ℕ). fieldAt s x 12) (add-zero p) ∙ h .0
-order-found s p (v ∷ vs) h (suc r) b =
-    let e : p + 12 * suc r ≡ p + 12 + 12 * r = omega arith in
-    ap (λ (x : ℕ). fieldAt s x 12) e ∙ order-found s (p + 12) vs (h .1) r (omega arith)
-
--- the entries from bit p on
-pub entries-found : (s : List ℕ) (p : ℕ) (l : List ℕ) → Reads s p (entryFields l) → (i : ℕ) → i < length l →
-    (fieldAt s (p + 24 * i) 12 ≡ rankOf (getD l i 0)) × (fieldAt s (p + 24 * i + 12) 12 ≡ joinsOf (getD l i 0))
-unfolding Reads entryFields
-entries-found s p [] h i b = absurd (omega arith)
-entries-found s p (x ∷ xs) h zero b =
-    (ap (λ (y : ℕ). fieldAt s y 12) (add-zero p) ∙ h .0, ap (λ (y : ℕ). fieldAt s (y + 12) 12) (add-zero p) ∙ h .1 .0)
-entries-found s p (x ∷ xs) h (suc i) b =
-    let e : p + 24 * suc i ≡ p + 12 + 12 + 24 * i = omega arith in
-    let r : (fieldAt s (p + 12 + 12 + 24 * i) 12 ≡ rankOf (getD xs i 0)) × (fieldAt s (p + 12 + 12 + 24 * i + 12) 12 ≡ joinsOf (getD xs i 0)) =
-    entries-found s (p + 12 + 12) xs (h .1 .1) i (omega arith) in
-    (ap (λ (y : ℕ). fieldAt s y 12) e ∙ r .0, ap (λ (y : ℕ). fieldAt s (y + 12) 12) e ∙ r .1)
 
 -- a byte string that holds the file of an index
 pub record Holds (s : List ℕ) (n k w : ℕ) (O labels counts : List ℕ) : Type 0 where
@@ -72,7 +48,7 @@ module _ {s : List ℕ} {n k w : ℕ} {O labels counts : List ℕ} (h : Holds s 
   unfolding Reads headerFields framesOf
   frames-found =
       let e : fieldAt s 4 12 ≡ n - 1 = header-part .1 .0 in
-      let some : 1 ≤ n = h .fits .rooms .some-frames in
+      let some : 1 ≤ n = h .fits .rooms .sizes .some-frames in
       omega arith
 
   pub stop-found : stopOf s ≡ k
@@ -90,10 +66,10 @@ module _ {s : List ℕ} {n k w : ℕ} {O labels counts : List ℕ} (h : Holds s 
   body-part = reads-back s 0 (headerFields n k) (orderFields O ++ rowsFields w labels counts 0 n) (h .reads)
 
   pub frame-found : (r : ℕ) → r < n → frameAt s r ≡ getD O r 0
-  unfolding frameAt
+  unfolding Reads frameAt
   frame-found r b =
       let long : length O ≡ n = h .fits .long in
-      order-found s 32 O (reads-front s 32 (orderFields O) (rowsFields w labels counts 0 n) body-part) r (omega arith)
+      each-found frameFields 12 frame-bits s 32 O (reads-front s 32 (orderFields O) (rowsFields w labels counts 0 n) body-part) r (omega arith) .0
 
   -- ---- the rows
 
@@ -113,10 +89,7 @@ module _ {s : List ℕ} {n k w : ℕ} {O labels counts : List ℕ} (h : Holds s 
 
   rows-head : (p v : ℕ) → v < n → Reads s p (rowsFields w labels counts v (n - v)) →
       Reads s p (rowFields w labels counts v ++ rowsFields w labels counts (suc v) (n - suc v))
-  unfolding rowsFields
-  rows-head p v b r =
-      let e : n - v ≡ suc (n - suc v) = omega arith in
-      subst (λ (left : ℕ). Reads s p (rowsFields w labels counts v left)) e r
+  rows-head p v b r = subst (Reads s p) (rows-next w labels counts n v refl b) r
 
   -- from the bit of row v on the file holds the rows from v on
   rows-part : (v : ℕ) → v ≤ n → Reads s (rowBit s n v) (rowsFields w labels counts v (n - v))
@@ -131,12 +104,9 @@ module _ {s : List ℕ} {n k w : ℕ} {O labels counts : List ℕ} (h : Holds s 
   row-part : (v : ℕ) → v < n → Reads s (rowBit s n v) (rowFields w labels counts v ++ rowsFields w labels counts (suc v) (n - suc v))
   row-part v b = rows-head (rowBit s n v) v b (rows-part v (omega arith))
 
-  pub count-field : (v : ℕ) → v < n → fieldAt s (rowBit s n v) 9 ≡ getD counts v 0
-  count-field v b = count-there (rowBit s n v) v _ (row-part v b)
-
   pub count-found : (v : ℕ) → v < n → countAt s n v ≡ getD counts v 0
   unfolding countAt
-  count-found v b = count-field v b
+  count-found v b = count-there (rowBit s n v) v _ (row-part v b)
 
   pub entry-found : (v : ℕ) → v < n → (i : ℕ) → i < getD counts v 0 →
       (fieldAt s (rowBit s n v + 9 + 24 * i) 12 ≡ rankOf (getD (rowAt w labels counts v) i 0))
@@ -145,49 +115,28 @@ module _ {s : List ℕ} {n k w : ℕ} {O labels counts : List ℕ} (h : Holds s 
   entry-found v b i c =
       let long : length (rowAt w labels counts v) ≡ getD counts v 0 = fit-length n k w O labels counts (h .fits) v b in
       let row : Reads s (rowBit s n v) (rowFields w labels counts v) = reads-front s (rowBit s n v) (rowFields w labels counts v) _ (row-part v b) in
-      entries-found s (rowBit s n v + 9) (rowAt w labels counts v) (row .1) i (omega arith)
+      let (rank, joins) = each-found pairFields 24 pair-bits s (rowBit s n v + 9) (rowAt w labels counts v) (row .1) i (omega arith) in
+      (rank, joins .0)
 
   -- ---- where they stand: the bits of the rows run on to the end of the layout
 
   pub next-bit : (v : ℕ) → v < n → rowBit s n (suc v) ≡ rowBit s n v + 9 + 24 * getD counts v 0
-  unfolding rowBit behind
-  next-bit v b = ap (λ (c : ℕ). rowBit s n v + 9 + 24 * c) (count-field v b)
+  unfolding rowBit behind countAt
+  next-bit v b = ap (λ (c : ℕ). rowBit s n v + 9 + 24 * c) (count-found v b)
 
-  row-first : (v : ℕ) → v < n →
-      bitLen (rowsFields w labels counts v (n - v)) ≡ bitLen (rowFields w labels counts v) + bitLen (rowsFields w labels counts (suc v) (n - suc v))
-  unfolding rowsFields
-  row-first v b =
-      let left : n - v ≡ suc (n - suc v) = omega arith in
-      ap (λ (l : ℕ). bitLen (rowsFields w labels counts v l)) left ∙ bitLen-append (rowFields w labels counts v) _
-
-  ends : (v : ℕ) → v ≤ n → rowBit s n v + bitLen (rowsFields w labels counts v (n - v)) ≡ bitLen (fileFields n k w O labels counts)
-  unfolding rowBit fileFields
-  ends zero b =
-      let long : length O ≡ n = h .fits .long in
-      let rest : n - 0 ≡ n = omega arith in
-      let all : bitLen (headerFields n k ++ (orderFields O ++ rowsFields w labels counts 0 n))
-      ≡ bitLen (headerFields n k) + bitLen (orderFields O ++ rowsFields w labels counts 0 n) = bitLen-append (headerFields n k) _ in
-      let body : bitLen (orderFields O ++ rowsFields w labels counts 0 n) ≡ bitLen (orderFields O) + bitLen (rowsFields w labels counts 0 n) =
-      bitLen-append (orderFields O) _ in
-      rw rest (omega (arith, header-bits n k, order-bits O))
-  ends (suc v) b =
-      let bits : bitLen (rowFields w labels counts v) ≡ 9 + 24 * getD counts v 0 =
-      row-bits w labels counts v (fit-length n k w O labels counts (h .fits) v b) in
-      omega (arith, next-bit v b, row-first v b, ends v (omega arith))
-
-  -- row v ends inside the layout
-  pub row-end : (v : ℕ) → v < n → rowBit s n v + 9 + 24 * getD counts v 0 ≤ bitLen (fileFields n k w O labels counts)
-  row-end v b = omega (arith, next-bit v b, ends (suc v) b)
+  row-takes : (v : ℕ) → v < n → rowBit s n v + bitLen (rowFields w labels counts v) ≡ rowBit s n (suc v)
+  row-takes v b = omega (arith, next-bit v b, row-bits w labels counts v (fit-length n k w O labels counts (h .fits) v b))
 
   -- the last row ends where the layout ends
   pub last-end : rowBit s n n ≡ bitLen (fileFields n k w O labels counts)
-  unfolding rowsFields bitLen
-  last-end =
-      let none : n - n ≡ 0 = omega arith in
-      let empty : bitLen (rowsFields w labels counts n (n - n)) ≡ 0 = ap (λ (l : ℕ). bitLen (rowsFields w labels counts n l)) none in
-      omega (arith, ends n (omega arith))
+  unfolding rowBit
+  last-end = sym (file-ends n k w O labels counts (rowBit s n) (h .fits .long) refl row-takes)
 
-  -- the order ends inside the layout
+  -- row v and the order end inside the layout
+  pub row-end : (v : ℕ) → v < n → rowBit s n v + 9 + 24 * getD counts v 0 ≤ bitLen (fileFields n k w O labels counts)
+  row-end v b =
+      omega (arith, next-bit v b, last-end, rows-take n k w O labels counts (rowBit s n) row-takes (suc v) (n - suc v) (omega arith))
+
   pub order-fits : 32 + 12 * n ≤ bitLen (fileFields n k w O labels counts)
   unfolding rowBit
-  order-fits = omega (arith, ends 0 (omega arith))
+  order-fits = omega (arith, last-end, rows-take n k w O labels counts (rowBit s n) row-takes 0 n (omega arith))

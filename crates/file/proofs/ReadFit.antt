@@ -1,16 +1,17 @@
 -- The index that a file gives which is read without refusal: what its rooms hold, place by place, and that it is one that
 -- the writer takes.
-use Prim.Native.Nat.{ℕ, zero, suc, _+_, _-_, _*_, _≤_, _<_}
-use mathlib.Core.Path.{_≡_, sym, ap, ap₂, subst, _∙_}
+use Prim.Native.Nat.{ℕ, zero, suc, _+_, _*_, _≤_, _<_}
+use mathlib.Core.Path.{_≡_, sym, ap, ap₂, _∙_}
 use mathlib.Core.Bool.{Bool, not, _||_}
 use mathlib.Core.List.{List}
 use native.Mathlib.Omega.{arith}
-use native.Mathlib.Nat.{zero-add, add-zero, add-sub-cancel-left}
+use native.Mathlib.Numerals.{add-one}
+use native.Mathlib.Nat.{zero-add, add-zero}
 use lib.ListN.{length, getD}
 use lib.Dec.{leb, eqb}
-use borrow.Author.Tests.{lt-ltb, eq-eqb}
+use borrow.Author.Tests.{eq-eqb}
 use Rattle.basics.specs.Places.{first}
-use Rattle.basics.proofs.Laws.{cond-true, not-of-true, of-not-true, some-ext, first-none, length-table, getD-table}
+use Rattle.basics.proofs.Laws.{not-of-true, of-not-true, some-ext, first-none, length-table, getD-table}
 use Rattle.refusal.specs.Numbers.{ORDER}
 use Rattle.refusal.specs.declared.Verdict.{Verdict}
 use Rattle.refusal.proofs.Laws.{test-fine, then-fine}
@@ -20,57 +21,39 @@ use Rattle.rows.specs.Rooms.{Rooms, rowAt, soundRow, rowsTest}
 use Rattle.rows.proofs.Laws.{Sound, rank-entry, joins-entry, row-inside, getD-part, sound-row}
 use Rattle.rows.proofs.RoomLaws.{length-row, rows-fine}
 use Rattle.file.specs.Bits.{fieldAt}
-use Rattle.file.specs.Reader.{framesOf, stopOf, frameAt, orderFieldTest, entriesFrom, rowBit, countAt, entryAt, labelAt, orderRead, labelsRead, countsRead}
-use Rattle.file.specs.Stores.{cellAt}
+use Rattle.file.specs.Reader.{framesOf, stopOf, frameAt, orderFieldTest, entryTest, entriesFrom, rowBit, countAt, entryAt, labelAt, orderRead, labelsRead, countsRead}
 use Rattle.file.specs.Writer.{Fit}
 use Rattle.file.proofs.Bits.{field-lt}
 use Rattle.file.proofs.Steps.{field-legal}
-use Rattle.file.proofs.Fields.{row-fine, row-fits}
+use Rattle.file.proofs.Fields.{row-fine}
 use Rattle.file.proofs.Heading.{frames-some, frames-most}
 use Rattle.file.proofs.Inversion.{order-all, entry-next, entry-near, rows-fine as each-fine}
-use Rattle.file.proofs.Stores.{cell-label}
-use Rattle.file.proofs.Reader.{Readable}
+use Rattle.file.proofs.Stores.{label-entry}
+use Rattle.file.proofs.Reader.{Readable, count-fits}
 
 -- ---- the entries of a row that is fine
 
 module _ (s : List ℕ) (n k : ℕ) where
-  -- each rank is below k and each joins below n
-  entries-in : (p low left : ℕ) → entriesFrom s n k p low left ≡ Verdict.Fine → (i : ℕ) → i < left
-      → (fieldAt s (p + 24 * i) 12 < k) × (fieldAt s (p + 24 * i + 12) 12 < n)
-  unfolding entriesFrom
-  entries-in p low zero e i h = absurd (omega arith)
-  entries-in p low (suc left) e zero h =
-      let (here, rest) = then-fine _ _ e in
-      subst (λ (q : ℕ). (fieldAt s q 12 < k) × (fieldAt s (q + 12) 12 < n)) (sym (add-zero p))
-      (entry-next s n k p low here .1, entry-near s n k p low here)
-  entries-in p low (suc left) e (suc i) h =
-      let (here, rest) = then-fine _ _ e in
-      let q : p + 24 + 24 * i ≡ p + 24 * suc i = omega arith in
-      subst (λ (q : ℕ). (fieldAt s q 12 < k) × (fieldAt s (q + 12) 12 < n)) q
-      (entries-in (p + 24) (fieldAt s p 12 + 1) left rest i (omega arith))
+  -- one above the rank before entry i, and `low` before the first
+  lowAt : ℕ → ℕ → ℕ → ℕ
+  lowAt p low zero = low
+  lowAt p low (suc i) = fieldAt s (p + 24 * i) 12 + 1
 
-  entries-low : (p low left : ℕ) → entriesFrom s n k p low left ≡ Verdict.Fine → 0 < left → low ≤ fieldAt s p 12
-  unfolding entriesFrom
-  entries-low p low zero e h = absurd (omega arith)
-  entries-low p low (suc left) e h = entry-next s n k p low (then-fine _ _ e .0) .0
+  low-on : (p low i : ℕ) → lowAt (p + 24) (fieldAt s p 12 + 1) i ≡ lowAt p low (suc i)
+  unfolding lowAt
+  low-on p low zero = ap (λ (x : ℕ). fieldAt s x 12 + 1) (sym (add-zero p))
+  low-on p low (suc i) = ap (λ (x : ℕ). fieldAt s x 12 + 1) (omega arith)
 
-  -- each rank is above the one before
-  entries-rise : (p low left : ℕ) → entriesFrom s n k p low left ≡ Verdict.Fine → (i : ℕ) → i + 1 < left
-      → fieldAt s (p + 24 * i) 12 < fieldAt s (p + 24 * (i + 1)) 12
-  unfolding entriesFrom
-  entries-rise p low zero e i h = absurd (omega arith)
-  entries-rise p low (suc left) e zero h =
-      let (here, rest) = then-fine _ _ e in
-      let next = entries-low (p + 24) (fieldAt s p 12 + 1) left rest (omega arith) in
-      let a : fieldAt s (p + 24 * 0) 12 ≡ fieldAt s p 12 = ap (λ (x : ℕ). fieldAt s x 12) (add-zero p) in
-      omega arith
-  entries-rise p low (suc left) e (suc i) h =
-      let (here, rest) = then-fine _ _ e in
-      let q : p + 24 + 24 * i ≡ p + 24 * suc i = omega arith in
-      let t : p + 24 + 24 * (i + 1) ≡ p + 24 * (suc i + 1) = omega arith in
-      subst (λ (x : ℕ). fieldAt s x 12 < fieldAt s (p + 24 * (suc i + 1)) 12) q
-      (subst (λ (x : ℕ). fieldAt s (p + 24 + 24 * i) 12 < fieldAt s x 12) t
-      (entries-rise (p + 24) (fieldAt s p 12 + 1) left rest i (omega arith)))
+  -- each entry is fine
+  entries-each : (p low left : ℕ) → entriesFrom s n k p low left ≡ Verdict.Fine → (i : ℕ) → i < left
+      → entryTest s n k (p + 24 * i) (lowAt p low i) ≡ Verdict.Fine
+  unfolding entriesFrom lowAt
+  entries-each p low zero e i h = absurd (omega arith)
+  entries-each p low (suc left) e zero h = ap (λ (x : ℕ). entryTest s n k x low) (add-zero p) ∙ then-fine _ _ e .0
+  entries-each p low (suc left) e (suc i) h =
+      let at : p + 24 * suc i ≡ p + 24 + 24 * i = omega arith in
+      ap₂ (entryTest s n k) at (sym (low-on p low i))
+      ∙ entries-each (p + 24) (fieldAt s p 12 + 1) left (then-fine _ _ e .1) i (omega arith)
 
 -- the same ranks are faulty where the frames are the same
 faulty-same : (n : ℕ) (f g : ℕ → ℕ) (r : ℕ) → ((j : ℕ) → j ≤ r → f j ≡ g j) → faultyRank n f r ≡ faultyRank n g r
@@ -82,6 +65,13 @@ faulty-same n f g r same =
 
 -- ---- the index read
 
+-- its row v, and the count of that row
+abbrev pub rowRead : List ℕ → ℕ → ℕ → List ℕ
+rowRead s w v = rowAt w (labelsRead s (framesOf s) w) (countsRead s (framesOf s)) v
+
+abbrev pub countRead : List ℕ → ℕ → ℕ
+countRead s v = getD (countsRead s (framesOf s)) v 0
+
 module _ {s : List ℕ} {w order labels counts : ℕ} (r : Readable s w order labels counts) where
   -- what the rooms hold, place by place
 
@@ -89,64 +79,51 @@ module _ {s : List ℕ} {w order labels counts : ℕ} (r : Readable s w order la
   unfolding orderRead
   frame-is j h = getD-table (framesOf s) (frameAt s) j 0 h
 
-  pub count-is : (v : ℕ) → v < framesOf s → getD (countsRead s (framesOf s)) v 0 ≡ countAt s (framesOf s) v
+  pub count-is : (v : ℕ) → v < framesOf s → countRead s v ≡ countAt s (framesOf s) v
   unfolding countsRead
   count-is v h = getD-table (framesOf s) (countAt s (framesOf s)) v 0 h
 
-  pub count-fits : (v : ℕ) → v < framesOf s → countAt s (framesOf s) v ≤ w
-  unfolding countAt
-  count-fits v h =
-      row-fits s (framesOf s) (stopOf s) w v (rowBit s (framesOf s) v)
-      (each-fine s (framesOf s) (stopOf s) w (r .rowed) v h)
-
   label-is : (v : ℕ) → v < framesOf s → (i : ℕ) → i < countAt s (framesOf s) v
       → getD (labelsRead s (framesOf s) w) (v * w + i) 0 ≡ entryAt s (rowBit s (framesOf s) v + 9 + 24 * i)
-  unfolding labelsRead cellAt
+  unfolding labelsRead
   label-is v h i c =
       let n : ℕ = framesOf s in
-      let wide : countAt s n v ≤ w = count-fits v h in
+      let inside : i < w = omega (arith, count-fits r v h) in
       let place : v * w + i < n * w = omega (arith, row-inside {v = v} {n = n} {c = w} {w = w} h (omega arith)) in
-      let back : v * w + i - v * w ≡ i = add-sub-cancel-left (v * w) i in
-      getD-table (n * w) (labelAt s n w) (v * w + i) 0 place
-      ∙ sym (cell-label s n w v (v * w + i) (omega arith) (omega arith))
-      ∙ cond-true _ 0 (lt-ltb (v * w + i - v * w) (countAt s n v) (omega arith))
-      ∙ ap (λ (x : ℕ). entryAt s (rowBit s n v + 9 + 24 * x)) back
+      getD-table (n * w) (labelAt s n w) (v * w + i) 0 place ∙ label-entry s n w v i inside c
 
   rooms : Rooms (framesOf s) w (labelsRead s (framesOf s) w) (countsRead s (framesOf s))
   unfolding labelsRead countsRead
   rooms =
       record {
-        some-frames = frames-some s;
-        frames = frames-most s;
-        some-width = r .some;
-        width = r .wide;
+        sizes = record { some-frames = frames-some s; frames = frames-most s; some-width = r .some; width = r .wide };
         places = length-table (framesOf s * w) (labelAt s (framesOf s) w);
         each = length-table (framesOf s) (countAt s (framesOf s));
       }
 
   pub row-long : (v : ℕ) → v < framesOf s
-      → length (rowAt w (labelsRead s (framesOf s) w) (countsRead s (framesOf s)) v) ≡ getD (countsRead s (framesOf s)) v 0
-  row-long v h = length-row rooms v h (omega (arith, count-is v h, count-fits v h))
+      → length (rowRead s w v) ≡ countRead s v
+  row-long v h = length-row rooms v h (omega (arith, count-is v h, count-fits r v h))
 
   -- entry i of row v
-  entry-is : (v : ℕ) → v < framesOf s → (i : ℕ) → i < getD (countsRead s (framesOf s)) v 0
-      → getD (rowAt w (labelsRead s (framesOf s) w) (countsRead s (framesOf s)) v) i 0
+  entry-is : (v : ℕ) → v < framesOf s → (i : ℕ) → i < countRead s v
+      → getD (rowRead s w v) i 0
       ≡ entryAt s (rowBit s (framesOf s) v + 9 + 24 * i)
   unfolding rowAt
   entry-is v h i c =
-      getD-part w (labelsRead s (framesOf s) w) v (getD (countsRead s (framesOf s)) v 0) i c
+      getD-part w (labelsRead s (framesOf s) w) v (countRead s v) i c
       ∙ label-is v h i (omega (arith, count-is v h))
 
-  pub rank-is : (v : ℕ) → v < framesOf s → (i : ℕ) → i < getD (countsRead s (framesOf s)) v 0
-      → rankOf (getD (rowAt w (labelsRead s (framesOf s) w) (countsRead s (framesOf s)) v) i 0)
+  pub rank-is : (v : ℕ) → v < framesOf s → (i : ℕ) → i < countRead s v
+      → rankOf (getD (rowRead s w v) i 0)
       ≡ fieldAt s (rowBit s (framesOf s) v + 9 + 24 * i) 12
   unfolding entryAt
   rank-is v h i c =
       let p : ℕ = rowBit s (framesOf s) v + 9 + 24 * i in
       ap rankOf (entry-is v h i c) ∙ rank-entry (fieldAt s p 12) _ (omega (arith, field-lt s p 12))
 
-  pub joins-is : (v : ℕ) → v < framesOf s → (i : ℕ) → i < getD (countsRead s (framesOf s)) v 0
-      → joinsOf (getD (rowAt w (labelsRead s (framesOf s) w) (countsRead s (framesOf s)) v) i 0)
+  pub joins-is : (v : ℕ) → v < framesOf s → (i : ℕ) → i < countRead s v
+      → joinsOf (getD (rowRead s w v) i 0)
       ≡ fieldAt s (rowBit s (framesOf s) v + 9 + 24 * i + 12) 12
   unfolding entryAt
   joins-is v h i c =
@@ -168,7 +145,7 @@ module _ {s : List ℕ} {w order labels counts : ℕ} (r : Readable s w order la
       test-fine ORDER _ (eq-eqb _ _ (none ∙ zero-add n))
 
   row-entries : (v : ℕ) → v < framesOf s
-      → entriesFrom s (framesOf s) (stopOf s) (rowBit s (framesOf s) v + 9) 0 (getD (countsRead s (framesOf s)) v 0) ≡ Verdict.Fine
+      → entriesFrom s (framesOf s) (stopOf s) (rowBit s (framesOf s) v + 9) 0 (countRead s v) ≡ Verdict.Fine
   unfolding countAt
   row-entries v h =
       let n : ℕ = framesOf s in
@@ -176,17 +153,26 @@ module _ {s : List ℕ} {w order labels counts : ℕ} (r : Readable s w order la
       ∙ row-fine s n (stopOf s) w v (rowBit s n v) (each-fine s n (stopOf s) w (r .rowed) v h)
 
   row-sound : (v : ℕ) → v < framesOf s
-      → Sound (stopOf s) (framesOf s) (rowAt w (labelsRead s (framesOf s) w) (countsRead s (framesOf s)) v)
-      (getD (countsRead s (framesOf s)) v 0)
+      → Sound (stopOf s) (framesOf s) (rowRead s w v)
+      (countRead s v)
+  unfolding lowAt
   row-sound v h =
       let n : ℕ = framesOf s in
+      let k : ℕ = stopOf s in
       let p : ℕ = rowBit s n v + 9 in
-      let fine = row-entries v h in
+      let each = entries-each s n k p 0 _ (row-entries v h) in
       record {
-        rank = λ i c. omega (arith, rank-is v h i c, entries-in s n (stopOf s) p 0 _ fine i c .0);
-        joins = λ i c. omega (arith, joins-is v h i c, entries-in s n (stopOf s) p 0 _ fine i c .1);
+        rank = λ i c. omega (arith, rank-is v h i c, entry-next s n k _ _ (each i c) .1);
+        joins = λ i c. omega (arith, joins-is v h i c, entry-near s n k _ _ (each i c));
         rising = λ i c.
-            omega (arith, rank-is v h i (omega arith), rank-is v h (i + 1) c, entries-rise s n (stopOf s) p 0 _ fine i c);
+            let next : i + 1 ≡ suc i = add-one i in
+            omega (
+              arith,
+              rank-is v h i (omega arith),
+              rank-is v h (i + 1) c,
+              ap (λ (x : ℕ). fieldAt s (p + 24 * x) 12) next,
+              entry-next s n k _ _ (each (suc i) (omega arith)) .0,
+            );
       }
 
   rows-sound : rowsTest (stopOf s) (framesOf s) w (labelsRead s (framesOf s) w) (countsRead s (framesOf s)) ≡ Verdict.Fine
@@ -197,7 +183,7 @@ module _ {s : List ℕ} {w order labels counts : ℕ} (r : Readable s w order la
       let none = first-none (λ u. not (soundRow (stopOf s) n w L C u)) 0 n
       (λ v a b.
       let h : v < n = omega arith in
-      not-of-true (sound-row (stopOf s) n w L C v (omega (arith, count-is v h, count-fits v h)) (row-sound v h))) in
+      not-of-true (sound-row (stopOf s) n w L C v (omega (arith, count-is v h, count-fits r v h)) (row-sound v h))) in
       rows-fine (stopOf s) n w L C (none ∙ zero-add n)
 
   pub read-fit : Fit (framesOf s) (stopOf s) w (orderRead s (framesOf s)) (labelsRead s (framesOf s) w) (countsRead s (framesOf s))

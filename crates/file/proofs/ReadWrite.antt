@@ -4,9 +4,9 @@
 use Prim.Native.Nat.{ℕ, zero, suc, _+_, _-_, _*_, _≤_, _<_}
 use mathlib.Core.Path.{_≡_, refl, sym, ap, subst, _∙_}
 use mathlib.Core.Logic.{_⊎_, inl, inr}
-use mathlib.Core.List.{List, [], _∷_, _++_}
+use mathlib.Core.List.{List, _++_}
 use native.Mathlib.Omega.{arith}
-use native.Mathlib.Nat.{zero-add, add-zero}
+use native.Mathlib.Nat.{zero-add}
 use lib.ListN.{length, getD, take, drop}
 use borrow.Author.Tests.{leb-true, eqb-true}
 use Rattle.basics.proofs.Laws.{length-table}
@@ -14,58 +14,35 @@ use Rattle.refusal.specs.Numbers.{FIELD, LONG}
 use Rattle.refusal.specs.declared.Refusal.{Refusal}
 use Rattle.refusal.specs.declared.Verdict.{Verdict}
 use Rattle.refusal.proofs.Laws.{test-held, then-fine, vcase}
-use Rattle.rows.specs.Entry.{rankOf, joinsOf}
-use Rattle.rows.specs.Rooms.{rowAt}
 use Rattle.file.specs.declared.Opened.{Opened}
 use Rattle.file.specs.declared.Written.{Written}
 use Rattle.file.specs.Bits.{fieldAt, Field, bitLen, byteLen, padLen, Bytes, Reads}
-use Rattle.file.specs.Layout.{headerFields, orderFields, entryFields, rowFields, rowsFields, fileFields, fileOf, stored, Same}
-use Rattle.file.specs.Reader.{framesOf, stopOf, frameAt, behind, endTest, readTest, rowBit, countAt, orderRead, labelsRead, countsRead, Outcome, outcome, filledIn, readOf}
+use Rattle.file.specs.Layout.{headerFields, frameFields, orderFields, pairFields, rowFields, rowsFields, fileFields, fileOf, stored, Same}
+use Rattle.file.specs.Reader.{framesOf, stopOf, frameAt, behind, endTest, readTest, rowBit, countAt, orderRead, labelsRead, countsRead, Outcome, outcome, indexRead, filledIn, readOf}
 use Rattle.file.specs.Writer.{Fit, wrote, writeOf}
-use Rattle.file.proofs.Bits.{bitLen-append}
 use Rattle.file.proofs.Packed.{packed-reads, reads-append}
-use Rattle.file.proofs.LayoutLaws.{header-bits, order-bits, row-bits}
+use Rattle.file.proofs.LayoutLaws.{each-reads, frame-bits, pair-bits, header-bits, order-bits, row-bits, file-ends}
 use Rattle.file.proofs.Inversion.{bits-there}
-use Rattle.file.proofs.Reader.{Readable, readable}
+use Rattle.file.proofs.Reader.{Readable, readable, count-fits}
 use Rattle.file.proofs.Writing.{write-done, done-file}
 use Rattle.file.proofs.ReadBack.{Holds, file-holds, frames-found, count-found}
 use Rattle.file.proofs.WriteRead.{read-back, same}
-use Rattle.file.proofs.ReadFit.{frame-is, count-is, count-fits, row-long, rank-is, joins-is, read-fit}
-
--- ---- fields that stand one behind the other
-
-reads-order : (s : List ℕ) (p : ℕ) (l : List ℕ) → ((r : ℕ) → r < length l → fieldAt s (p + 12 * r) 12 ≡ getD l r 0)
-    → Reads s p (orderFields l)
-unfolding Reads orderFields
-reads-order s p [] h = tt
-reads-order s p (v ∷ vs) h = (
-  ap (λ (x : ℕ). fieldAt s x 12) (sym (add-zero p)) ∙ h 0 (omega arith),
-  reads-order s (p + 12) vs
-      (λ r b.
-      let e : p + 12 + 12 * r ≡ p + 12 * suc r = omega arith in
-      ap (λ (x : ℕ). fieldAt s x 12) e ∙ h (suc r) (omega arith)),
-)
-
-reads-entries : (s : List ℕ) (p : ℕ) (l : List ℕ)
-    → ((i : ℕ) → i < length l
-    → (fieldAt s (p + 24 * i) 12 ≡ rankOf (getD l i 0)) × (fieldAt s (p + 24 * i + 12) 12 ≡ joinsOf (getD l i 0)))
-    → Reads s p (entryFields l)
-unfolding Reads entryFields
-reads-entries s p [] h = tt
-reads-entries s p (x ∷ xs) h =
-    let (rank, joins) = h 0 (omega arith) in (
-      ap (λ (y : ℕ). fieldAt s y 12) (sym (add-zero p)) ∙ rank,
-      (
-        ap (λ (y : ℕ). fieldAt s (y + 12) 12) (sym (add-zero p)) ∙ joins,
-        reads-entries s (p + 12 + 12) xs
-            (λ i b.
-            let e : p + 12 + 12 + 24 * i ≡ p + 24 * suc i = omega arith in
-            let (more, far) = h (suc i) (omega arith) in
-            (ap (λ (y : ℕ). fieldAt s y 12) e ∙ more, ap (λ (y : ℕ). fieldAt s (y + 12) 12) e ∙ far)),
-      ),
-    )
+use Rattle.file.proofs.ReadFit.{rowRead, countRead, frame-is, count-is, row-long, rank-is, joins-is, read-fit}
 
 -- ---- the file of the index read
+
+-- the fields of its row v, of `left` rows from v on, and of the whole
+abbrev rowFieldsRead : List ℕ → ℕ → ℕ → List Field
+rowFieldsRead s w v = rowFields w (labelsRead s (framesOf s) w) (countsRead s (framesOf s)) v
+
+abbrev rowsFieldsRead : List ℕ → ℕ → ℕ → ℕ → List Field
+rowsFieldsRead s w v left = rowsFields w (labelsRead s (framesOf s) w) (countsRead s (framesOf s)) v left
+
+abbrev fieldsRead : List ℕ → ℕ → List Field
+fieldsRead s w = fileFields (framesOf s) (stopOf s) w (orderRead s (framesOf s)) (labelsRead s (framesOf s) w) (countsRead s (framesOf s))
+
+abbrev pub fileRead : List ℕ → ℕ → List ℕ
+fileRead s w = fileOf (framesOf s) (stopOf s) w (orderRead s (framesOf s)) (labelsRead s (framesOf s) w) (countsRead s (framesOf s))
 
 module _ {s : List ℕ} {w order labels counts : ℕ} (r : Readable s w order labels counts) where
   header-there : Reads s 0 (headerFields (framesOf s) (stopOf s))
@@ -75,65 +52,52 @@ module _ {s : List ℕ} {w order labels counts : ℕ} (r : Readable s w order la
       (r .head .version, (e, (refl, (r .head .spare, tt))))
 
   order-there : Reads s 32 (orderFields (orderRead s (framesOf s)))
-  unfolding frameAt orderRead
+  unfolding Reads frameAt orderRead
   order-there =
-      reads-order s 32 (orderRead s (framesOf s))
-      (λ j h. sym (frame-is r j (omega (arith, length-table (framesOf s) (frameAt s)))))
+      each-reads frameFields 12 frame-bits s 32 (orderRead s (framesOf s))
+      (λ j h. (sym (frame-is r j (omega (arith, length-table (framesOf s) (frameAt s)))), tt))
 
   row-there : (v : ℕ) → v < framesOf s
-      → Reads s (rowBit s (framesOf s) v) (rowFields w (labelsRead s (framesOf s) w) (countsRead s (framesOf s)) v)
+      → Reads s (rowBit s (framesOf s) v) (rowFieldsRead s w v)
   unfolding Reads rowFields countAt
   row-there v h = (
     sym (count-is r v h),
-    reads-entries s (rowBit s (framesOf s) v + 9) (rowAt w (labelsRead s (framesOf s) w) (countsRead s (framesOf s)) v)
+    each-reads pairFields 24 pair-bits s (rowBit s (framesOf s) v + 9) (rowRead s w v)
         (λ i c.
-        let b : i < getD (countsRead s (framesOf s)) v 0 = omega (arith, row-long r v h) in
-        (sym (rank-is r v h i b), sym (joins-is r v h i b))),
+        let b : i < countRead s v = omega (arith, row-long r v h) in
+        (sym (rank-is r v h i b), (sym (joins-is r v h i b), tt))),
   )
 
   -- row v takes the bits up to the next row
   row-takes : (v : ℕ) → v < framesOf s
-      → rowBit s (framesOf s) v + bitLen (rowFields w (labelsRead s (framesOf s) w) (countsRead s (framesOf s)) v)
+      → rowBit s (framesOf s) v + bitLen (rowFieldsRead s w v)
       ≡ rowBit s (framesOf s) (suc v)
   unfolding rowBit behind countAt
   row-takes v h =
       omega (arith, row-bits w (labelsRead s (framesOf s) w) (countsRead s (framesOf s)) v (row-long r v h), count-is r v h)
 
-  -- the rows from v on stand from the bit of row v on, and end where the last row ends
+  -- the rows from v on stand from the bit of row v on
   rows-there : (v left : ℕ) → v + left ≡ framesOf s
-      → Reads s (rowBit s (framesOf s) v) (rowsFields w (labelsRead s (framesOf s) w) (countsRead s (framesOf s)) v left)
+      → Reads s (rowBit s (framesOf s) v) (rowsFieldsRead s w v left)
   unfolding rowsFields Reads
   rows-there v zero e = tt
   rows-there v (suc left) e =
       let h : v < framesOf s = omega arith in
-      let row = rowFields w (labelsRead s (framesOf s) w) (countsRead s (framesOf s)) v in
-      let rest = rowsFields w (labelsRead s (framesOf s) w) (countsRead s (framesOf s)) (suc v) left in
+      let row = rowFieldsRead s w v in
+      let rest = rowsFieldsRead s w (suc v) left in
       reads-append s (rowBit s (framesOf s) v) row rest (row-there v h)
       (subst (λ (p : ℕ). Reads s p rest) (sym (row-takes v h)) (rows-there (suc v) left (omega arith)))
 
-  rows-take : (v left : ℕ) → v + left ≡ framesOf s
-      → rowBit s (framesOf s) v + bitLen (rowsFields w (labelsRead s (framesOf s) w) (countsRead s (framesOf s)) v left)
-      ≡ rowBit s (framesOf s) (framesOf s)
-  unfolding rowsFields bitLen
-  rows-take v zero e =
-      let all : v ≡ framesOf s = omega arith in
-      add-zero (rowBit s (framesOf s) v) ∙ ap (rowBit s (framesOf s)) all
-  rows-take v (suc left) e =
-      let h : v < framesOf s = omega arith in
-      let row = rowFields w (labelsRead s (framesOf s) w) (countsRead s (framesOf s)) v in
-      let rest = rowsFields w (labelsRead s (framesOf s) w) (countsRead s (framesOf s)) (suc v) left in
-      omega (arith, bitLen-append row rest, row-takes v h, rows-take (suc v) left (omega arith))
-
   body-fields : List Field
   body-fields =
-      orderFields (orderRead s (framesOf s)) ++ rowsFields w (labelsRead s (framesOf s) w) (countsRead s (framesOf s)) 0 (framesOf s)
+      orderFields (orderRead s (framesOf s)) ++ rowsFieldsRead s w 0 (framesOf s)
 
   -- the whole layout stands from the first bit on, and ends where the last row ends
-  file-there : Reads s 0 (fileFields (framesOf s) (stopOf s) w (orderRead s (framesOf s)) (labelsRead s (framesOf s) w) (countsRead s (framesOf s)))
+  file-there : Reads s 0 (fieldsRead s w)
   unfolding fileFields rowBit body-fields orderRead
   file-there =
       let n : ℕ = framesOf s in
-      let rows = rowsFields w (labelsRead s n w) (countsRead s n) 0 n in
+      let rows = rowsFieldsRead s w 0 n in
       let long : length (orderRead s n) ≡ n = length-table n (frameAt s) in
       let next : 32 + bitLen (orderFields (orderRead s n)) ≡ 32 + 12 * n = omega (arith, order-bits (orderRead s n)) in
       reads-append s 0 (headerFields n (stopOf s)) body-fields header-there
@@ -141,21 +105,10 @@ module _ {s : List ℕ} {w order labels counts : ℕ} (r : Readable s w order la
       (reads-append s 32 (orderFields (orderRead s n)) rows order-there
       (subst (λ (p : ℕ). Reads s p rows) (sym next) (rows-there 0 n (zero-add n)))))
 
-  file-takes : bitLen (fileFields (framesOf s) (stopOf s) w (orderRead s (framesOf s)) (labelsRead s (framesOf s) w) (countsRead s (framesOf s)))
-      ≡ rowBit s (framesOf s) (framesOf s)
-  unfolding fileFields rowBit body-fields orderRead
+  file-takes : bitLen (fieldsRead s w) ≡ rowBit s (framesOf s) (framesOf s)
+  unfolding rowBit orderRead
   file-takes =
-      let n : ℕ = framesOf s in
-      let rows = rowsFields w (labelsRead s n w) (countsRead s n) 0 n in
-      let long : length (orderRead s n) ≡ n = length-table n (frameAt s) in
-      omega (
-        arith,
-        bitLen-append (headerFields n (stopOf s)) body-fields,
-        header-bits n (stopOf s),
-        bitLen-append (orderFields (orderRead s n)) rows,
-        order-bits (orderRead s n),
-        rows-take 0 n (zero-add n),
-      )
+      file-ends _ _ w _ _ _ (rowBit s (framesOf s)) (length-table (framesOf s) (frameAt s)) refl row-takes
 
   -- no byte more, and zero bits in the last one
   end-length : length s ≡ byteLen (rowBit s (framesOf s) (framesOf s))
@@ -171,7 +124,7 @@ module _ {s : List ℕ} {w order labels counts : ℕ} (r : Readable s w order la
 
   -- the file of the index read is the file
   pub read-file : Bytes s
-      → fileOf (framesOf s) (stopOf s) w (orderRead s (framesOf s)) (labelsRead s (framesOf s) w) (countsRead s (framesOf s)) ≡ s
+      → fileRead s w ≡ s
   unfolding fileOf
   read-file bytes =
       let e = file-takes in
@@ -185,7 +138,7 @@ read-index : (v : Verdict) (s : List ℕ) (w : ℕ) (order labels counts : List 
     → outcome (Opened.Index n k) O L C ≡ filledIn v s w order labels counts
     → (v ≡ Verdict.Fine)
     × (outcome (Opened.Index n k) O L C
-    ≡ outcome (Opened.Index (framesOf s) (stopOf s)) (orderRead s (framesOf s)) (labelsRead s (framesOf s) w) (countsRead s (framesOf s)))
+    ≡ indexRead s w)
 unfolding filledIn
 read-index Verdict.Fine s w order labels counts e = (refl, e)
 read-index (Verdict.Refused r) s w order labels counts e =
@@ -207,7 +160,7 @@ module _ (s : List ℕ) (w : ℕ) (order labels counts : List ℕ) (n k : ℕ) (
   read-fine = read-index _ s w order labels counts given .0
 
   read-parts : outcome (Opened.Index n k) O L C
-      ≡ outcome (Opened.Index (framesOf s) (stopOf s)) (orderRead s (framesOf s)) (labelsRead s (framesOf s) w) (countsRead s (framesOf s))
+      ≡ indexRead s w
   unfolding readOf
   read-parts = read-index _ s w order labels counts given .1
 
@@ -254,9 +207,9 @@ module _ (s : List ℕ) (w : ℕ) (order labels counts : List ℕ) (n k : ℕ) (
 -- a byte string is refused, or it is the file of the index read
 pub refused-or-file : (s : List ℕ) → Bytes s → (w : ℕ) (order labels counts : List ℕ)
     → ((r : Refusal) × (readOf s w order labels counts ≡ outcome (Opened.Refused r) order labels counts))
-    ⊎ ((fileOf (framesOf s) (stopOf s) w (orderRead s (framesOf s)) (labelsRead s (framesOf s) w) (countsRead s (framesOf s)) ≡ s)
+    ⊎ ((fileRead s w ≡ s)
     × (readOf s w order labels counts
-    ≡ outcome (Opened.Index (framesOf s) (stopOf s)) (orderRead s (framesOf s)) (labelsRead s (framesOf s) w) (countsRead s (framesOf s))))
+    ≡ indexRead s w))
 unfolding readOf filledIn
 refused-or-file s bytes w order labels counts =
     vcase (readTest s w (length order) (length labels) (length counts))

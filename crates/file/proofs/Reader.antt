@@ -5,37 +5,23 @@ use mathlib.Core.Bool.{true, false}
 use mathlib.Core.List.{List}
 use native.Mathlib.Omega.{arith}
 use lib.ListN.{length}
-use borrow.Author.Tests.{le-leb, lt-leb, leb-true}
 use Rattle.basics.specs.Places.{table}
-use Rattle.basics.proofs.Laws.{both, both-true}
 use Rattle.refusal.specs.Numbers.{SIZE, LENGTH}
+use Rattle.refusal.specs.Sizes.{widthFits}
 use Rattle.refusal.specs.Tests.{refusal}
 use Rattle.refusal.specs.declared.Refusal.{Refusal}
 use Rattle.refusal.specs.declared.Verdict.{Verdict}
 use Rattle.refusal.proofs.Laws.{test-fine, test-refused, test-held, then-fine, after-fine, after-refused}
+use Rattle.refusal.proofs.SizeLaws.{width-held}
 use Rattle.file.specs.declared.Opened.{Opened}
 use Rattle.file.specs.Layout.{lengthsFit}
-use Rattle.file.specs.Reader.{framesOf, stopOf, headerTest, frameAt, orderFrom, rowsOf, endTest, bodyTest, widthFits, readTest, rowBit, countAt, labelAt, orderRead, labelsRead, countsRead, outcome, filledIn, readOf}
+use Rattle.file.specs.Reader.{framesOf, stopOf, headerTest, frameAt, orderFrom, rowsOf, endTest, bodyTest, readTest, rowBit, countAt, labelAt, orderRead, labelsRead, countsRead, outcome, filledIn, readOf}
 use Rattle.file.specs.Stores.{filled, Ordered, Rowed}
 use Rattle.file.proofs.Fields.{row-fits}
 use Rattle.file.proofs.Heading.{Headed, headed, frames-most}
 use Rattle.file.proofs.LayoutLaws.{fit-lengths}
 use Rattle.file.proofs.Inversion.{rows-fine, rows-behind, bits-there}
 use Rattle.file.proofs.Stores.{filled-table}
-
--- ---- the width
-
-pub no-width : (w : ℕ) → w < 1 → widthFits w ≡ false
-unfolding widthFits
-no-width w h = rw (lt-leb 1 w h)
-
-pub too-wide : (w : ℕ) → 256 < w → widthFits w ≡ false
-unfolding widthFits
-too-wide w h = rw (le-leb 1 w (omega arith), lt-leb w 256 h)
-
-pub width-fits : (w : ℕ) → 1 ≤ w → w ≤ 256 → widthFits w ≡ true
-unfolding widthFits
-width-fits w h g = both _ _ (le-leb 1 w h) (le-leb w 256 g)
 
 -- ---- the tests in their order
 
@@ -78,7 +64,7 @@ pub record Readable (s : List ℕ) (w order labels counts : ℕ) : Type 0 where
 
 pub readable : (s : List ℕ) (w order labels counts : ℕ) → readTest s w order labels counts ≡ Verdict.Fine
     → Readable s w order labels counts
-unfolding readTest bodyTest widthFits
+unfolding readTest bodyTest
 readable s w order labels counts e =
     let n : ℕ = framesOf s in
     let (size, rest) = then-fine _ _ e in
@@ -86,11 +72,11 @@ readable s w order labels counts e =
     let (lengths, rest3) = then-fine _ _ rest2 in
     let (ordered, rest4) = then-fine _ _ rest3 in
     let (rowed, ended) = then-fine _ _ rest4 in
-    let (low, high) = both-true _ _ (test-held _ SIZE 0 size) in
+    let (low, high) = width-held w (test-held _ SIZE 0 size) in
     let (a, b, c) = fit-lengths n w order labels counts (test-held _ LENGTH 0 lengths) in
     record {
-      some = leb-true _ _ low;
-      wide = leb-true _ _ high;
+      some = low;
+      wide = high;
       head = headed s head;
       orders = a;
       labelled = b;
@@ -99,6 +85,14 @@ readable s w order labels counts e =
       rowed = rowed;
       ended = ap (endTest s) (sym (rows-behind s n (stopOf s) w rowed)) ∙ ended;
     }
+
+-- its counts fit the width
+pub count-fits : {s : List ℕ} {w order labels counts : ℕ} → Readable s w order labels counts
+    → (v : ℕ) → v < framesOf s → countAt s (framesOf s) v ≤ w
+unfolding countAt
+count-fits {s} {w} r v h =
+    row-fits s (framesOf s) (stopOf s) w v (rowBit s (framesOf s) v)
+    (rows-fine s (framesOf s) (stopOf s) w (r .rowed) v h)
 
 -- what the storing pass asks of the order and of the rows
 pub stores-order : {s : List ℕ} {w order labels counts n : ℕ} → Readable s w order labels counts → n ≡ framesOf s
@@ -114,15 +108,12 @@ stores-order {s} {w} {order} r p =
 
 pub stores-rows : {s : List ℕ} {w order labels counts n : ℕ} → Readable s w order labels counts → n ≡ framesOf s
     → Rowed s n w labels counts
-unfolding countAt
 stores-rows {s} {w} {order} {labels} {counts} r p =
     subst (λ (x : ℕ). Rowed s x w labels counts) (sym p)
     (record {
       most = frames-most s;
       wide = r .wide;
-      fits = λ v h.
-          row-fits s (framesOf s) (stopOf s) w v (rowBit s (framesOf s) v)
-          (rows-fine s (framesOf s) (stopOf s) w (r .rowed) v h);
+      fits = count-fits r;
       there = bits-there s (framesOf s) (stopOf s) w (r .rowed) (r .head .long) (r .ordered);
       room = r .labelled;
       counted = r .counted;

@@ -5,13 +5,15 @@ use mathlib.Core.Bool.{Bool, true, false}
 use mathlib.Core.List.{List}
 use native.Mathlib.Omega.{arith}
 use lib.ListN.{length}
-use borrow.Author.Tests.{le-leb, lt-leb, leb-true}
+use lib.Dec.{ltb}
+use borrow.Author.Tests.{le-leb, lt-leb, leb-true, ltb-true}
+use Rattle.basics.proofs.Laws.{not-both}
 use Rattle.refusal.specs.Numbers.{SHORT, FIELD}
 use Rattle.refusal.specs.Tests.{refusal}
 use Rattle.refusal.specs.declared.Refusal.{Refusal}
 use Rattle.refusal.specs.declared.Verdict.{Verdict}
-use Rattle.refusal.proofs.Laws.{test-fine, test-refused, test-held, then-fine, after-fine, after-refused}
-use Rattle.file.specs.Bits.{byteLen}
+use Rattle.refusal.proofs.Laws.{test-fine, test-refused, test-held, then-fine, after-fine, after-refused, fine-not-refused, vcase}
+use Rattle.file.specs.Bits.{fieldAt, byteLen}
 use Rattle.file.specs.Reader.{shortTest, fieldTest}
 use Rattle.file.specs.Steps.{step, verdictOf}
 use Rattle.file.specs.declared.get.Step.{Step}
@@ -45,6 +47,17 @@ pub field-short : (s : List ℕ) (p w : ℕ) (legal : Bool) {r : Refusal} → sh
 unfolding fieldTest
 field-short s p w legal e = after-refused _ e
 
+-- refused by one test, so by every test that asks for more
+pub field-more : (s : List ℕ) (p w : ℕ) (legal more : Bool) {r : Refusal} → (more ≡ true → legal ≡ true)
+    → fieldTest s p w legal ≡ Verdict.Refused r → fieldTest s p w more ≡ Verdict.Refused r
+unfolding fieldTest
+field-more s p w true more asks e =
+    vcase (shortTest s p w)
+    (λ f. fine-not-refused (sym (field-fine s p w f refl) ∙ e))
+    (λ r f. field-short s p w more f ∙ sym (field-short s p w true f) ∙ e)
+field-more s p w false true asks e = not-both (asks refl) refl
+field-more s p w false false asks e = e
+
 -- a field that is fine is there, and legal
 pub field-there : (s : List ℕ) (p w : ℕ) (legal : Bool) → fieldTest s p w legal ≡ Verdict.Fine → byteLen (p + w) ≤ length s
 unfolding fieldTest
@@ -69,6 +82,15 @@ pub went-on : (v : Verdict) (y : ℕ) {x : ℕ} → Step.On x ≡ step v y → (
 unfolding step
 went-on Verdict.Fine y e = (refl, cc)
 went-on (Verdict.Refused r) y e = absurd (let z : _≡_ {A = ℕ} 0 1 = cc in omega arith)
+
+-- the same for a field below a bound
+pub below : (s : List ℕ) (p w bound : ℕ) {x : ℕ} → Step.On x ≡ step (fieldTest s p w (ltb (fieldAt s p w) bound)) (fieldAt s p w)
+    → (shortTest s p w ≡ Verdict.Fine) × (x ≡ fieldAt s p w) × (x < bound)
+unfolding fieldTest
+below s p w bound e =
+    let (fine, is) = went-on _ _ e in
+    let less : fieldAt s p w < bound = ltb-true _ _ (field-legal s p w _ fine) in
+    (then-fine _ _ fine .0, is, omega arith)
 
 -- one that did not gives the tests' refusal
 pub stopped : (v : Verdict) (y : ℕ) {r : Refusal} → Step.Refused r ≡ step v y → v ≡ Verdict.Refused r

@@ -1,21 +1,19 @@
 -- The laws of a filled room: one place more, two stretches one behind the other, and a room filled to its end is a table.
-use Prim.Native.Nat.{ℕ, zero, suc, _+_, _-_, _*_, _/_, _%_, _≤_, _<_}
+use Prim.Native.Nat.{ℕ, zero, suc, _+_, _-_, _*_, _≤_, _<_}
 use mathlib.Core.Path.{_≡_, refl, sym, ap, ap₂, subst, _∙_}
-use mathlib.Core.Bool.{cond}
 use mathlib.Core.List.{List}
 use native.Mathlib.Omega.{arith}
 use native.Mathlib.Decide.{ℕ-discrete}
 use native.Mathlib.Numerals.{add-one}
-use native.Mathlib.Nat.{add-zero, zero-add, suc-mul, mul-le-mul-right}
+use native.Mathlib.Nat.{add-zero, zero-add, sub-zero, suc-mul, mul-le-mul-right}
 use lib.ListN.{length, getD, set, length-set}
 use lib.Seq.{getD-set-same, getD-set-other}
 use lib.Arith.{digits-div, digits-mod}
-use lib.Dec.{ltb}
 use borrow.Author.Tests.{lt-ltb, le-ltb}
 use Rattle.basics.specs.Places.{table}
 use Rattle.basics.proofs.Laws.{by-cases, cond-true, cond-false, less-one, is-table}
 use Rattle.file.specs.Bits.{fieldAt, byteLen}
-use Rattle.file.specs.Reader.{entryAt, countAt, labelAt, behind, rowBit}
+use Rattle.file.specs.Reader.{entryAt, cellOf, countAt, labelAt, behind, rowBit}
 use Rattle.file.specs.Stores.{filled, entryFrom, nought, cellAt, Row, Rowed}
 use Rattle.file.proofs.Inversion.{bit-near}
 
@@ -48,6 +46,43 @@ filled-add f l a (suc x) y =
     let g : suc a + x ≡ a + suc x = omega arith in
     ap (filled f l a) e ∙ filled-add f (set l a (f a)) (suc a) x y
     ∙ ap (λ (b : ℕ). filled f (filled f (set l a (f a)) (suc a) x) b y) g
+
+-- what a loop keeps that fills the places from a up to `end`: those from `at` on are left, and filling them gives the whole
+pub record FillLeft (f : ℕ → ℕ) (l₀ : List ℕ) (a end : ℕ) (l : List ℕ) (at : ℕ) : Type 0 where
+  pub low : a ≤ at
+  pub high : at ≤ end
+  pub long : length l ≡ length l₀
+  pub left : filled f l at (end - at) ≡ filled f l₀ a (end - a)
+
+pub fill-none : (f : ℕ → ℕ) (l : List ℕ) (a end : ℕ) → a ≤ end → FillLeft f l a end l a
+fill-none f l a end h = record { low = omega arith; high = h; long = refl; left = refl }
+
+module _ {f : ℕ → ℕ} {l₀ : List ℕ} {a end : ℕ} {l : List ℕ} {at : ℕ} (k : FillLeft f l₀ a end l at) where
+  pub fill-more : {x : ℕ} {m : List ℕ} → at < end → m ≡ set l at x → x ≡ f at → FillLeft f l₀ a end m (at + 1)
+  fill-more {x} h g e =
+      record {
+        low = omega (arith, k .low);
+        high = omega arith;
+        long = ap length g ∙ length-set l at x ∙ k .long;
+        left = filled-on f l at end h g e ∙ k .left;
+      }
+
+  -- a whole stretch
+  pub fill-on : {m : List ℕ} (x : ℕ) → at + x ≤ end → m ≡ filled f l at x → FillLeft f l₀ a end m (at + x)
+  fill-on x h g =
+      let all : end - at ≡ x + (end - (at + x)) = omega arith in
+      record {
+        low = omega (arith, k .low);
+        high = h;
+        long = ap length g ∙ filled-length f l at x ∙ k .long;
+        left =
+            ap (λ (y : List ℕ). filled f y (at + x) (end - (at + x))) g
+            ∙ sym (ap (filled f l at) all ∙ filled-add f l at x (end - (at + x)))
+            ∙ k .left;
+      }
+
+  pub fill-all : end ≤ at → l ≡ filled f l₀ a (end - a)
+  fill-all h = sym (filled-end f l at end h) ∙ k .left
 
 pub filled-ext : (f g : ℕ → ℕ) (l : List ℕ) (a left : ℕ) → ((j : ℕ) → a ≤ j → j < a + left → f j ≡ g j)
     → filled f l a left ≡ filled g l a left
@@ -88,7 +123,7 @@ filled-table f l n e =
 pub filled-row : (s : List ℕ) (p count w base : ℕ) (l m : List ℕ) → count ≤ w
     → m ≡ filled (entryFrom s (p + 9) base) l base count
     → filled nought m (base + count) (base + w - (base + count)) ≡ filled (cellAt s p count base) l base w
-unfolding entryFrom nought cellAt
+unfolding entryFrom nought cellAt cellOf
 filled-row s p count w base l m h e =
     let f : ℕ → ℕ = cellAt s p count base in
     let rest : base + w - (base + count) ≡ w - count = omega arith in
@@ -102,44 +137,43 @@ filled-row s p count w base l m h e =
     (λ j g k. sym (cond-false _ _ (le-ltb (j - base) count (omega arith))))
     ∙ sym (ap (filled f l base) all ∙ filled-add f l base count (w - count))
 
+-- place i of row v in the label room
+pub label-cell : (s : List ℕ) (n w v i : ℕ) → i < w → labelAt s n w (v * w + i) ≡ cellOf s (rowBit s n v) (countAt s n v) i
+unfolding labelAt
+label-cell s n w v i h =
+    ap₂ (λ (u x : ℕ). cellOf s (rowBit s n u) (countAt s n u) x) (digits-div v h) (digits-mod v h)
+
+-- a used one holds its entry
+pub label-entry : (s : List ℕ) (n w v i : ℕ) → i < w → i < countAt s n v
+    → labelAt s n w (v * w + i) ≡ entryAt s (rowBit s n v + 9 + 24 * i)
+unfolding cellOf
+label-entry s n w v i h c = label-cell s n w v i h ∙ cond-true _ 0 (lt-ltb i (countAt s n v) c)
+
 -- in row v the label room's places are that row's
 pub cell-label : (s : List ℕ) (n w v j : ℕ) → v * w ≤ j → j < v * w + w
     → cellAt s (rowBit s n v) (countAt s n v) (v * w) j ≡ labelAt s n w j
-unfolding cellAt labelAt
+unfolding cellAt
 cell-label s n w v j h k =
-    let i : ℕ = j - v * w in
-    let e : v * w + i ≡ j = omega arith in
-    let d : j / w ≡ v = ap (λ (x : ℕ). x / w) (sym e) ∙ digits-div v (omega arith) in
-    let r : j % w ≡ i = ap (λ (x : ℕ). x % w) (sym e) ∙ digits-mod v (omega arith) in
-    sym
-    (ap₂ (λ (u x : ℕ). cond (ltb x (countAt s n u)) (entryAt s (rowBit s n u + 9 + 24 * x)) 0) d r)
+    let e : v * w + (j - v * w) ≡ j = omega arith in
+    sym (label-cell s n w v (j - v * w) (omega arith)) ∙ ap (labelAt s n w) e
 
 -- ---- all rows
 
 -- what the rows' loop keeps: row v comes next, and filling what is left gives the whole
 pub record RowsLeft (s : List ℕ) (n w : ℕ) (labels₀ counts₀ : List ℕ) (p base v : ℕ) (labels counts : List ℕ) : Type 0 where
-  pub upto : v ≤ n
   pub bit : p ≡ rowBit s n v
   pub place : base ≡ v * w
-  pub labelled : length labels ≡ n * w
-  pub counted : length counts ≡ n
-  pub labels-left : filled (labelAt s n w) labels base (n * w - base) ≡ filled (labelAt s n w) labels₀ 0 (n * w)
-  pub counts-left : filled (countAt s n) counts v (n - v) ≡ filled (countAt s n) counts₀ 0 n
+  pub labelled : FillLeft (labelAt s n w) labels₀ 0 (n * w) labels base
+  pub counted : FillLeft (countAt s n) counts₀ 0 n counts v
 
-pub rows-none : (s : List ℕ) (n w : ℕ) (labels counts : List ℕ) → length labels ≡ n * w → length counts ≡ n
-    → RowsLeft s n w labels counts (32 + 12 * n) 0 0 labels counts
+pub rows-none : (s : List ℕ) (n w : ℕ) (labels counts : List ℕ) → RowsLeft s n w labels counts (32 + 12 * n) 0 0 labels counts
 unfolding rowBit
-rows-none s n w labels counts e g =
-    let a : n * w - 0 ≡ n * w = omega arith in
-    let b : n - 0 ≡ n = omega arith in
+rows-none s n w labels counts =
     record {
-      upto = omega arith;
       bit = refl;
       place = omega arith;
-      labelled = e;
-      counted = g;
-      labels-left = ap (filled (labelAt s n w) labels 0) a;
-      counts-left = ap (filled (countAt s n) counts 0) b;
+      labelled = fill-none _ labels 0 (n * w) (omega arith);
+      counted = fill-none _ counts 0 n (omega arith);
     }
 
 module _ {s : List ℕ} {n w : ℕ} {labels₀ counts₀ : List ℕ} {p base v : ℕ} {labels counts : List ℕ}
@@ -160,7 +194,7 @@ module _ {s : List ℕ} {n w : ℕ} {labels₀ counts₀ : List ℕ} {p base v :
         there =
             subst (λ (x : ℕ). byteLen x ≤ length s) (ap₂ (λ (x y : ℕ). x + 9 + 24 * y) (sym (k .bit)) (sym c))
             (asked .there (suc v) (omega arith));
-        room = omega (arith, next-room, k .labelled);
+        room = omega (arith, next-room, k .labelled .long, asked .room);
       }
 
   -- and behind it the next row
@@ -178,26 +212,19 @@ module _ {s : List ℕ} {n w : ℕ} {labels₀ counts₀ : List ℕ} {p base v :
       ap (λ (x : ℕ). cellAt s x count base j) (k .bit)
       ∙ ap₂ (λ (x y : ℕ). cellAt s (rowBit s n v) x y j) c (k .place)
       ∙ cell-label s n w v j (omega (arith, k .place)) (omega (arith, k .place))) in
-      let all : n * w - base ≡ w + (n * w - (base + w)) = omega (arith, next-room) in
       record {
-        upto = omega arith;
         bit = ap₂ (λ (x y : ℕ). x + 9 + 24 * y) (k .bit) c ∙ next;
         place = omega (arith, suc-mul v w, ap (λ (x : ℕ). x * w) (add-one v), k .place);
-        labelled = ap length row ∙ filled-length f labels base w ∙ k .labelled;
-        counted = length-set counts v count ∙ k .counted;
-        labels-left =
-            ap (λ (x : List ℕ). filled f x (base + w) (n * w - (base + w))) row
-            ∙ sym (ap (filled f labels base) all ∙ filled-add f labels base w (n * w - (base + w)))
-            ∙ k .labels-left;
-        counts-left = filled-on (countAt s n) counts v n h refl c ∙ k .counts-left;
+        labelled = fill-on (k .labelled) w next-room row;
+        counted = fill-more (k .counted) h refl c;
       }
 
 pub rows-stored : {s : List ℕ} {n w : ℕ} {labels₀ counts₀ : List ℕ} {p base v : ℕ} {labels counts : List ℕ}
     → RowsLeft s n w labels₀ counts₀ p base v labels counts → n ≤ v
     → (labels ≡ filled (labelAt s n w) labels₀ 0 (n * w)) × (counts ≡ filled (countAt s n) counts₀ 0 n)
 rows-stored {s} {n} {w} {labels₀} {counts₀} {p} {base} {v} {labels} {counts} k h =
-    let e : v ≡ n = omega (arith, k .upto) in
+    let e : v ≡ n = omega (arith, k .counted .high) in
     let b : base ≡ n * w = k .place ∙ ap (λ (x : ℕ). x * w) e in (
-      sym (filled-end (labelAt s n w) labels base (n * w) (omega arith)) ∙ k .labels-left,
-      sym (filled-end (countAt s n) counts v n h) ∙ k .counts-left,
+      fill-all (k .labelled) (omega arith) ∙ ap (filled (labelAt s n w) labels₀ 0) (sub-zero (n * w)),
+      fill-all (k .counted) h ∙ ap (filled (countAt s n) counts₀ 0) (sub-zero n),
     )

@@ -2,38 +2,38 @@
 -- width from the largest count up and whatever they held before.
 use Prim.Native.Nat.{ℕ, zero, suc, _+_, _*_, _≤_, _<_}
 use mathlib.Core.Path.{_≡_, refl, sym, ap, ap₂, subst, _∙_}
-use mathlib.Core.Bool.{false, cond}
+use mathlib.Core.Bool.{false}
 use mathlib.Core.List.{List}
 use native.Mathlib.Omega.{arith}
 use native.Mathlib.Nat.{le-of-eq, lt-of-lt-of-le}
-use borrow.Author.Tests.{le-leb, lt-ltb, eq-eqb, ne-eqb}
+use borrow.Author.Tests.{ne-eqb}
 use lib.ListN.{length, getD, take, drop}
-use lib.Arith.{digits-div, digits-mod}
-use lib.Dec.{ltb, eqb}
+use lib.Dec.{eqb}
 use lib.Seq.{ext-getD}
 use Rattle.basics.specs.Places.{table}
-use Rattle.basics.proofs.Laws.{both, some-none, is-table, getD-table, length-table, cond-true}
-use Rattle.refusal.specs.Numbers.{SIZE, LENGTH, VERSION}
-use Rattle.refusal.specs.Tests.{test, _then_}
+use Rattle.basics.proofs.Laws.{some-none, is-table, getD-table, length-table}
 use Rattle.refusal.specs.declared.Verdict.{Verdict}
-use Rattle.refusal.proofs.Laws.{test-fine, after-fine}
+use Rattle.refusal.proofs.Laws.{after-fine}
 use Rattle.links.specs.Order.{stands}
 use Rattle.rows.specs.Entry.{rankOf, entryOf}
 use Rattle.rows.specs.Rooms.{part, rowAt}
 use Rattle.rows.proofs.Laws.{Sound, entry-of-parts, getD-part, length-part, row-inside}
+use Rattle.refusal.proofs.SizeLaws.{width-fits}
 use Rattle.file.specs.Bits.{fieldAt, bitLen, byteLen}
 use Rattle.file.specs.Layout.{fileFields, fileOf, stored, Same}
-use Rattle.file.specs.Reader.{shortTest, headerTest, framesOf, stopOf, frameAt, orderFrom, entriesFrom, rowTest, behind, whole, goOn, rowsFrom, rowsOf, bodyTest, readTest, rowBit, countAt, entryAt, labelAt, orderRead, labelsRead, countsRead, Outcome, outcome, filledIn, readOf}
+use Rattle.file.specs.Reader.{shortTest, headerTest, frameAt, orderFrom, entriesFrom, rowTest, behind, whole, goOn, rowsFrom, rowsOf, bodyTest, readTest, rowBit, countAt, entryAt, labelAt, orderRead, labelsRead, countsRead, Outcome, outcome, filledIn, readOf}
 use Rattle.file.specs.Writer.{wrote, writeOf}
 use Rattle.file.specs.declared.Opened.{Opened}
 use Rattle.file.specs.declared.Whole.{Whole}
 use Rattle.file.specs.declared.Written.{Written}
 use Rattle.file.proofs.Fields.{order-legal, entry-legal, row-entries, end-fine, body-end}
 use Rattle.file.proofs.Fit.{fit-order, fit-count, fit-row, fit-length}
-use Rattle.file.proofs.ReadBack.{Holds, file-holds, version-found, frames-found, stop-found, spare-found, frame-found, count-field, count-found, entry-found, row-end, last-end, order-fits}
-use Rattle.file.proofs.Steps.{short-fine, field-fine}
+use Rattle.file.proofs.ReadBack.{Holds, file-holds, version-found, frames-found, stop-found, spare-found, frame-found, count-found, entry-found, row-end, last-end, order-fits}
+use Rattle.file.proofs.Heading.{header-fine as fine-header}
+use Rattle.file.proofs.Steps.{short-fine}
+use Rattle.file.proofs.Stores.{label-entry}
 use Rattle.file.proofs.LayoutLaws.{lengths-fit}
-use Rattle.file.proofs.Reader.{width-fits, body-left}
+use Rattle.file.proofs.Reader.{body-left}
 use Rattle.file.proofs.Writing.{Done, write-done, done-file}
 
 more-bytes : (a b : ℕ) → a ≤ b → byteLen a ≤ byteLen b
@@ -48,15 +48,10 @@ module _ {s : List ℕ} {n k w : ℕ} {O labels counts : List ℕ} (h : Holds s 
   there p m b = short-fine s p m (subst (λ (l : ℕ). byteLen (p + m) ≤ l) (sym (h .long)) (more-bytes (p + m) _ b))
 
   pub header-fine : headerTest s ≡ Verdict.Fine
-  unfolding headerTest
+  unfolding byteLen
   header-fine =
-      let far : 32 + 12 * n ≤ bitLen (fileFields n k w O labels counts) = order-fits h in
-      let stop : stopOf s ≤ framesOf s = omega (arith, stop-found h, frames-found h, h .fits .stop) in
-      after-fine _ (there 0 4 (omega arith))
-      ∙ after-fine _ (test-fine VERSION 0 (eq-eqb _ _ (version-found h)))
-      ∙ after-fine _ (there 4 12 (omega arith))
-      ∙ after-fine _ (field-fine s 16 13 (there 16 13 (omega arith)) (le-leb _ _ stop))
-      ∙ field-fine s 29 3 (there 29 3 (omega arith)) (eq-eqb _ _ (spare-found h))
+      fine-header s (omega (arith, h .long, order-fits h)) (version-found h)
+      (omega (arith, stop-found h, frames-found h, h .fits .stop)) (spare-found h)
 
   -- no frame stands twice
   new : (r : ℕ) → r < n → stands (frameAt s) r (frameAt s r) ≡ false
@@ -98,10 +93,11 @@ module _ {s : List ℕ} {n k w : ℕ} {O labels counts : List ℕ} (h : Holds s 
   -- ---- and of the rows, for a width that takes every count
   module _ (x : ℕ) (wide : (v : ℕ) → v < n → getD counts v 0 ≤ x) where
     row-fine : (v : ℕ) → v < n → rowTest s n k x v (rowBit s n v) ≡ Verdict.Fine
+    unfolding countAt
     row-fine v b =
         let c : getD counts v 0 ≤ w = fit-count n k w O labels counts (h .fits) v b in
-        let most : w ≤ 256 = h .fits .rooms .width in
-        let e : getD counts v 0 ≡ fieldAt s (rowBit s n v) 9 = sym (count-field h v b) in
+        let most : w ≤ 256 = h .fits .rooms .sizes .width in
+        let e : getD counts v 0 ≡ fieldAt s (rowBit s n v) 9 = sym (count-found h v b) in
         let z : rowBit s n v + 9 + 24 * 0 ≡ rowBit s n v + 9 = omega arith in
         row-entries s n k x v (rowBit s n v) (there (rowBit s n v) 9 (omega (arith, row-end h v b))) e (omega arith) (wide v b)
         ∙ ap (λ (q : ℕ). entriesFrom s n k q 0 (getD counts v 0)) (sym z)
@@ -142,17 +138,15 @@ module _ {s : List ℕ} {n k w : ℕ} {O labels counts : List ℕ} (h : Holds s 
 
     -- entry i of row v
     label-same : (v : ℕ) → v < n → (i : ℕ) → i < getD counts v 0 → labelAt s n x (v * x + i) ≡ getD (rowAt w labels counts v) i 0
-    unfolding labelAt entryAt rankOf
+    unfolding entryAt rankOf
     label-same v b i c =
         let e : ℕ = getD (rowAt w labels counts v) i 0 in
-        let inside : i < x = lt-of-lt-of-le c (wide v b) in
         let sound : Sound k n (rowAt w labels counts v) (getD counts v 0) = fit-row n k w O labels counts (h .fits) v b in
         let small : rankOf e < k = sound .rank i c in
         let stop : k ≤ n = h .fits .stop in
-        let most : n ≤ 4096 = h .fits .rooms .frames in
+        let most : n ≤ 4096 = h .fits .rooms .sizes .frames in
         let (rank, joins) = entry-found h v b i c in
-        ap₂ (λ (m u : ℕ). cond (ltb m (countAt s n u)) (entryAt s (rowBit s n u + 9 + 24 * m)) 0) (digits-mod v inside) (digits-div v inside)
-        ∙ cond-true _ 0 (lt-ltb i (countAt s n v) (subst (λ (m : ℕ). i < m) (sym (count-found h v b)) c))
+        label-entry s n x v i (lt-of-lt-of-le c (wide v b)) (subst (λ (m : ℕ). i < m) (sym (count-found h v b)) c)
         ∙ ap₂ entryOf rank joins ∙ entry-of-parts e (omega arith)
 
     pub entries-same : (v : ℕ) → v < n → rowAt w labels counts v ≡ rowAt x (labelsRead s n x) counts v
@@ -210,4 +204,4 @@ module _ (n k w : ℕ) (O labels counts out : List ℕ) (start bytes : ℕ) (roo
       (answer ≡ Opened.Index n k) × Same (stored n k w O labels counts) (stored n k w order₂ labels₂ counts₂)
   write-read-here =
       let d : Done n k w O labels counts out start bytes room = write-done n k w O labels counts out start bytes room written in
-      write-read w (d .fits .rooms .some-width) (d .fits .rooms .width) (fit-count n k w O labels counts (d .fits))
+      write-read w (d .fits .rooms .sizes .some-width) (d .fits .rooms .sizes .width) (fit-count n k w O labels counts (d .fits))

@@ -16,13 +16,12 @@ use Rattle.refusal.specs.declared.Verdict.the-variants.{Fine, Refused}
 use Rattle.refusal.proofs.Laws.{Numbered, test-fine, test-held, then-fine, after-fine, after-refused, test-numbered, then-numbered, vcase, told}
 use Rattle.links.specs.Order.{orderTest}
 use Rattle.rows.specs.Rooms.{rowsTest}
-use Rattle.file.specs.Bits.{bitLen, byteLen}
-use Rattle.file.specs.Layout.{headerFields, orderFields, rowsFields, fileFields, fileOf}
+use Rattle.file.specs.Bits.{byteLen}
+use Rattle.file.specs.Layout.{fileFields, fileOf}
 use Rattle.file.specs.Writer.{writeTests, outFits, outTest, wrote, Wrote, filledFrom, writeOf, Fit}
 use Rattle.file.specs.declared.Written.{Written}
-use Rattle.file.proofs.Bits.{bitLen-append}
 use Rattle.file.proofs.Fit.{fit}
-use Rattle.file.proofs.LayoutLaws.{header-bits}
+use Rattle.file.proofs.LayoutLaws.{file-takes}
 use Rattle.file.proofs.Packed.{packed-length}
 
 -- 14: where the file fits, and where it does not
@@ -76,11 +75,8 @@ module _ (n k w : ℕ) (O labels counts out : List ℕ) (start : ℕ) where
 
   -- no file is empty
   file-long : 4 ≤ length (fileOf n k w O labels counts)
-  unfolding fileOf byteLen fileFields
-  file-long =
-      let fs : ℕ = bitLen (headerFields n k ++ (orderFields O ++ rowsFields w labels counts 0 n)) in
-      let all : fs ≡ bitLen (headerFields n k) + bitLen (orderFields O ++ rowsFields w labels counts 0 n) = bitLen-append (headerFields n k) _ in
-      omega (arith, packed-length (fileFields n k w O labels counts), header-bits n k)
+  unfolding fileOf byteLen
+  file-long = omega (arith, packed-length (fileFields n k w O labels counts), file-takes n k w O labels counts)
 
   -- a call that filled bytes passed every test, and the stretch holds the file
   pub record Done (bytes : ℕ) (room : List ℕ) : Type 0 where

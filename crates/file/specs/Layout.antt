@@ -14,15 +14,24 @@ use Rattle.file.specs.Bits.{Field, field, packed}
 unfoldable pub headerFields : ℕ → ℕ → List Field
 headerFields n k = field 1 4 ∷ field (n - 1) 12 ∷ field k 13 ∷ field 0 3 ∷ []
 
+-- the fields of each element of a list, one element behind the other
+unfoldable pub eachOf : (ℕ → List Field) → List ℕ → List Field
+eachOf one [] = []
+eachOf one (x ∷ xs) = one x ++ eachOf one xs
+
 -- the order: 12 bits for each frame number
-unfoldable pub orderFields : List ℕ → List Field
-orderFields [] = []
-orderFields (v ∷ vs) = field v 12 ∷ orderFields vs
+abbrev pub frameFields : ℕ → List Field
+frameFields v = field v 12 ∷ []
+
+abbrev pub orderFields : List ℕ → List Field
+orderFields O = eachOf frameFields O
 
 -- the entries of a row: rank 12, joins 12
-unfoldable pub entryFields : List ℕ → List Field
-entryFields [] = []
-entryFields (e ∷ es) = field (rankOf e) 12 ∷ field (joinsOf e) 12 ∷ entryFields es
+abbrev pub pairFields : ℕ → List Field
+pairFields e = field (rankOf e) 12 ∷ field (joinsOf e) 12 ∷ []
+
+abbrev pub entryFields : List ℕ → List Field
+entryFields row = eachOf pairFields row
 
 -- a row: a count of 9 and its entries
 unfoldable pub rowFields : ℕ → List ℕ → List ℕ → ℕ → List Field

@@ -1,8 +1,8 @@
 -- What the field writer does to the output room: one relation for every writing function.
 use Prim.Native.Nat.{ℕ, _+_, _*_, _^_, _≤_, _<_}
 use mathlib.Core.Path.{_≡_}
-use mathlib.Core.List.{List}
-use lib.ListN.{length, getD, take, drop}
+use mathlib.Core.List.{List, []}
+use lib.ListN.{length, take, drop}
 use Rattle.file.specs.Bits.{Field, val, bitLen, num, byteLen, padLen, Legal}
 use Rattle.file.specs.declared.put.Pen.{Pen}
 
@@ -20,21 +20,20 @@ pub record Ready (o : List ℕ) (p : Pen) (fs : List Field) : Type 0 where
   pub space : penBits p + bitLen fs ≤ 8 * length o
   pub legal : Legal fs
 
--- these fields were put behind what had been written; from the first byte that is not finished on, the room is as it was
-pub record Put (o : List ℕ) (p : Pen) (fs : List Field) (o1 : List ℕ) (p1 : Pen) : Type 0 where
-  pub small : p1 .nb < 8
-  pub below : p1 .acc < 2 ^ p1 .nb
-  pub bits : penBits p1 ≡ penBits p + bitLen fs
-  pub number : penNum o1 p1 ≡ num (penNum o p) fs
-  pub long : length o1 ≡ length o
-  pub rest : drop (p1 .at) o1 ≡ drop (p1 .at) o
+-- from o₀ and p₀ on, where `all` was to be put, the writer has come to o and p and has `rest` left: what is written,
+-- followed by `rest`, is the whole; from the first byte that is not finished on, the room is as it was
+pub record Left (o₀ : List ℕ) (p₀ : Pen) (all : List Field) (o : List ℕ) (p : Pen) (rest : List Field) : Type 0 where
+  pub ready : Ready o p rest
+  pub bits : penBits p + bitLen rest ≡ penBits p₀ + bitLen all
+  pub number : num (penNum o p) rest ≡ num (penNum o₀ p₀) all
+  pub long : length o ≡ length o₀
+  pub keep : drop (p .at) o ≡ drop (p .at) o₀
+
+-- these fields were put: nothing of them is left
+abbrev pub Put : List ℕ → Pen → List Field → List ℕ → Pen → Type 0
+Put o p fs o1 p1 = Left o p fs o1 p1 []
 
 -- the last byte is filled up with zero bits
 pub record Closed (o : List ℕ) (p : Pen) (o1 : List ℕ) : Type 0 where
   pub long : length o1 ≡ length o
   pub whole : val (take (byteLen (penBits p)) o1) ≡ penNum o p * 2 ^ padLen (penBits p)
-
--- row v lies in the label room, whatever its entries are
-pub record RowLies (w : ℕ) (labels counts : List ℕ) (v : ℕ) : Type 0 where
-  pub counted : v < length counts
-  pub lies : v * w + getD counts v 0 ≤ length labels

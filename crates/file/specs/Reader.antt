@@ -1,12 +1,13 @@
 -- The reader of the index file, in the paper's words: the tests in their order, each field at its first bit, and what the
 -- rooms hold afterwards. `s` is the byte string, n the frames and k the stop that its header gives, w the width of the call.
 use Prim.Native.Nat.{ℕ, zero, suc, _+_, _*_, _/_, _%_}
-use mathlib.Core.Bool.{Bool, true, false, cond, not, _&&_}
+use mathlib.Core.Bool.{Bool, cond, not, _&&_}
 use mathlib.Core.List.{List}
 use lib.ListN.{length}
 use lib.Dec.{leb, ltb, eqb}
 use Rattle.basics.specs.Places.{table}
 use Rattle.refusal.specs.Numbers.{SIZE, LENGTH, ROOM, SHORT, VERSION, FIELD, LONG}
+use Rattle.refusal.specs.Sizes.{widthFits}
 use Rattle.refusal.specs.Tests.{test, _then_}
 use Rattle.refusal.specs.declared.Verdict.{Verdict}
 use Rattle.links.specs.Order.{faultyRank}
@@ -121,11 +122,7 @@ bodyTest s n k w =
 
 -- ---- the reader
 
--- width W, 1 to 256
-unfoldable pub widthFits : ℕ → Bool
-widthFits w = leb 1 w && leb w 256
-
--- 1 for W, the header's fields in bit order, 2, then the other fields in bit order, then 13
+-- 1 for W, the header's fields in bit order, 2 for the lengths of the three rooms, then the other fields in bit order, then 13
 unfoldable pub readTest : List ℕ → ℕ → ℕ → ℕ → ℕ → Verdict
 readTest s w order labels counts =
     test (widthFits w) SIZE 0
@@ -157,10 +154,13 @@ countAt s n v = fieldAt s (rowBit s n v) 9
 unfoldable pub entryAt : List ℕ → ℕ → ℕ
 entryAt s p = entryOf (fieldAt s p 12) (fieldAt s (p + 12) 12)
 
--- a place of the label room: place v * w + i holds entry i of row v, and 0 in unused places
+-- place i of the row of `count` entries at bit p: its entry, and 0 in unused places
+unfoldable pub cellOf : List ℕ → ℕ → ℕ → ℕ → ℕ
+cellOf s p count i = cond (ltb i count) (entryAt s (p + 9 + 24 * i)) 0
+
+-- a place of the label room: place v * w + i is place i of row v
 unfoldable pub labelAt : List ℕ → ℕ → ℕ → ℕ → ℕ
-labelAt s n w at =
-    cond (ltb (at % w) (countAt s n (at / w))) (entryAt s (rowBit s n (at / w) + 9 + 24 * (at % w))) 0
+labelAt s n w at = cellOf s (rowBit s n (at / w)) (countAt s n (at / w)) (at % w)
 
 -- the rooms that a file fills: the order, the entries with 0 in unused places, the counts
 unfoldable pub orderRead : List ℕ → ℕ → List ℕ
@@ -182,13 +182,17 @@ pub record Outcome : Type 0 where
 abbrev pub outcome : Opened → List ℕ → List ℕ → List ℕ → Outcome
 outcome answer order labels counts = record { answer = answer; order = order; labels = labels; counts = counts }
 
--- the rooms filled where the tests are fine, else as lent
-unfoldable pub filledIn : Verdict → List ℕ → ℕ → List ℕ → List ℕ → List ℕ → Outcome
-filledIn Verdict.Fine s w order labels counts =
+-- the index that a file gives: n and k, and the rooms filled
+abbrev pub indexRead : List ℕ → ℕ → Outcome
+indexRead s w =
     outcome (Opened.Index (framesOf s) (stopOf s))
     (orderRead s (framesOf s))
     (labelsRead s (framesOf s) w)
     (countsRead s (framesOf s))
+
+-- the rooms filled where the tests are fine, else as lent
+unfoldable pub filledIn : Verdict → List ℕ → ℕ → List ℕ → List ℕ → List ℕ → Outcome
+filledIn Verdict.Fine s w order labels counts = indexRead s w
 filledIn (Verdict.Refused r) s w order labels counts = outcome (Opened.Refused r) order labels counts
 
 -- the reader

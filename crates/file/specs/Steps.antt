@@ -1,12 +1,5 @@
 -- What one step of the reader asks, and what it hands to the next.
-use Prim.Native.Nat.{ℕ, _+_, _^_, _≤_, _<_}
-use mathlib.Core.Path.{_≡_}
-use mathlib.Core.Bool.{Bool, false}
-use mathlib.Core.List.{List}
-use lib.ListN.{length, getD}
-use Rattle.links.specs.Order.{stands}
-use Rattle.file.specs.Bits.{byteLen}
-use Rattle.file.specs.Reader.{frameAt}
+use Prim.Native.Nat.{ℕ, _^_, _≤_}
 use Rattle.refusal.specs.declared.Verdict.{Verdict}
 use Rattle.file.specs.declared.get.Step.{Step}
 
@@ -16,12 +9,6 @@ use Rattle.file.specs.declared.get.Step.{Step}
 pub record Near (p width : ℕ) : Type 0 where
   pub narrow : width ≤ 16
   pub near : p ≤ 2 ^ 32
-
--- a field whose bytes are there
-pub record Inside (s : List ℕ) (p width : ℕ) : Type 0 where
-  pub narrow : width ≤ 16
-  pub near : p ≤ 2 ^ 32
-  pub there : byteLen (p + width) ≤ length s
 
 -- ---- what it hands on
 
@@ -34,8 +21,3 @@ step (Verdict.Refused r) x = Step.Refused r
 unfoldable pub verdictOf : Step → Verdict
 verdictOf (Step.On x) = Verdict.Fine
 verdictOf (Step.Refused r) = Verdict.Refused r
-
--- the flags say which frames stand below rank r
-pub record Seen (s : List ℕ) (seen : List Bool) (r : ℕ) : Type 0 where
-  pub long : length seen ≡ 4096
-  pub has : (v : ℕ) → v < 4096 → getD seen v false ≡ stands (frameAt s) r v

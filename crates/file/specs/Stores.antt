@@ -1,12 +1,10 @@
 -- What the storing pass leaves in a room, and what it asks of the file: a file whose tests are fine gives it.
-use Prim.Native.Nat.{ℕ, zero, suc, _+_, _-_, _*_, _≤_, _<_}
+use Prim.Native.Nat.{ℕ, zero, suc, _+_, _-_, _*_, _^_, _≤_, _<_}
 use mathlib.Core.Path.{_≡_}
-use mathlib.Core.Bool.{cond}
 use mathlib.Core.List.{List}
 use lib.ListN.{length, set}
-use lib.Dec.{ltb}
 use Rattle.file.specs.Bits.{byteLen}
-use Rattle.file.specs.Reader.{entryAt, countAt, rowBit}
+use Rattle.file.specs.Reader.{entryAt, cellOf, countAt, rowBit}
 
 -- a room in which each of the `left` places from `a` on holds `f` of that place
 unfoldable pub filled : (ℕ → ℕ) → List ℕ → ℕ → ℕ → List ℕ
@@ -21,20 +19,20 @@ entryFrom s p base at = entryAt s (p + 24 * (at - base))
 unfoldable pub nought : ℕ → ℕ
 nought at = 0
 
--- a row of `count` entries at bit p, from place `base` on: its entries, then 0
+-- the row of `count` entries at bit p, from place `base` on
 unfoldable pub cellAt : List ℕ → ℕ → ℕ → ℕ → ℕ → ℕ
-cellAt s p count base at = cond (ltb (at - base) count) (entryAt s (p + 9 + 24 * (at - base))) 0
+cellAt s p count base at = cellOf s p count (at - base)
 
 -- the bytes have the entries, and the room of `labels` places has place for them
 pub record Entries (s : List ℕ) (p count labels base : ℕ) : Type 0 where
-  pub near : p < 536870912
+  pub near : p < 2 ^ 29
   pub most : count ≤ 256
   pub there : byteLen (p + 24 * count) ≤ length s
   pub room : base + count ≤ labels
 
 -- the same for a row
 pub record Row (s : List ℕ) (p count w labels base : ℕ) : Type 0 where
-  pub near : p < 268435456
+  pub near : p < 2 ^ 28
   pub wide : w ≤ 256
   pub fits : count ≤ w
   pub there : byteLen (p + 9 + 24 * count) ≤ length s

@@ -7,10 +7,11 @@ use mathlib.Core.List.{List, _++_}
 use lib.ListN.{length, take, drop}
 use lib.Dec.{leb}
 use Rattle.refusal.specs.Numbers.{SIZE, LENGTH, OUT}
+use Rattle.refusal.specs.Sizes.{sizesFit}
 use Rattle.refusal.specs.Tests.{test, _then_}
 use Rattle.refusal.specs.declared.Verdict.{Verdict}
 use Rattle.links.specs.Order.{orderTest}
-use Rattle.rows.specs.Rooms.{Rooms, sizesFit, rowsTest}
+use Rattle.rows.specs.Rooms.{Rooms, rowsTest}
 use Rattle.file.specs.declared.Written.{Written}
 use Rattle.file.specs.Layout.{lengthsFit, fileOf}
 

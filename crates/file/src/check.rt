@@ -7,32 +7,30 @@ use crate::rooms;
 use crate::widths;
 use refusal;
 use refusal::Verdict;
-ghost use Prim.Native.Nat.{_+_, _*_, _≤_, _<_};
+ghost use Prim.Native.Nat.{_+_, _*_, _^_, _≤_, _<_};
 ghost use mathlib.Core.Path.{_≡_};
 ghost use lib.ListN.{length};
 ghost use Rattle.file.specs.Bits.{fieldAt, byteLen};
 ghost use Rattle.file.specs.Reader.{frameAt, orderFieldTest, orderFrom, entryTest, entriesFrom, rowTest, behind, rowsOf, endTest, bodyTest, framesOf, stopOf, readTest, opened};
-ghost use Rattle.file.specs.Steps.{step, Seen};
+ghost use Rattle.file.specs.Steps.{step};
+ghost use Rattle.links.specs.Inner.{Seen};
 
-// The order field of rank r: its frame, or the refusal; `seen` has the frames that stand at lower ranks.
-pub fn order_field(bytes: &[u8], n: usize, r: usize, seen: &mut [bool]) -> Step
-    requires { ⌜ (n ≤ 4096) × (r < n) × Seen (now bytes) (now seen) r ⌝ }
-    ensures found { λ x. ⌜ x ≡ step (orderFieldTest (now (bytes .entry)) n r) (frameAt (now (bytes .entry)) r) ⌝ }
-    ensures noted { λ x. ⌜ (orderFieldTest (now (bytes .entry)) n r ≡ Verdict.Fine → Seen (now (bytes .entry)) (now (seen .exit)) (r + 1)) ⌝ }
+// The order field of rank r; `seen` has the frames that stand at lower ranks.
+pub fn order_field(bytes: &[u8], n: usize, r: usize, seen: &mut [bool]) -> Verdict
+    requires { ⌜ (n ≤ 4096) × (r < n) × Seen (frameAt (now bytes)) (now seen) r ⌝ }
+    ensures found { λ x. ⌜ x ≡ orderFieldTest (now (bytes .entry)) n r ⌝ }
+    ensures noted { λ x. ⌜ (orderFieldTest (now (bytes .entry)) n r ≡ Verdict.Fine → Seen (frameAt (now (bytes .entry))) (now (seen .exit)) (r + 1)) ⌝ }
 {
     let p = widths::HEADER_BITS + widths::FRAME_BITS * r;
-    let got = get::field(bytes, p, widths::FRAME_BITS);
-    let Step::On(v) = got else {
-        return got;
+    let got = get::field(bytes, p, widths::FRAME_BITS, n);
+    let Step::On(frame) = got else {
+        return get::verdict(got);
     };
-    if n <= v {
-        return get::stop(refusal::FIELD, p);
+    if seen[frame] {
+        return refusal::refused(refusal::FIELD, p);
     }
-    if seen[v] {
-        return get::stop(refusal::FIELD, p);
-    }
-    seen[v] = true;
-    Step::On(v)
+    seen[frame] = true;
+    Verdict::Fine
 }
 
 // All order fields.
@@ -44,8 +42,8 @@ pub fn order(bytes: &[u8], n: usize) -> Verdict
     let mut r: usize = 0;
     while r < n {
         let got = order_field(bytes, n, r, &mut seen);
-        let Step::On(_) = got else {
-            return get::verdict(got);
+        let Verdict::Fine = got else {
+            return got;
         };
         r += 1;
     }
@@ -54,69 +52,60 @@ pub fn order(bytes: &[u8], n: usize) -> Verdict
 
 // One entry at bit p, field by field: its rank, which is `low` or more, or the refusal.
 pub fn entry_fields(bytes: &[u8], n: usize, k: usize, p: usize, low: usize) -> Step
-    requires { ⌜ p < 1073741824 ⌝ }
+    requires { ⌜ p < 2 ^ 30 ⌝ }
     ensures { λ x. ⌜ x ≡ step (entryTest (now (bytes .entry)) n k p low) (fieldAt (now (bytes .entry)) p 12) ⌝ }
 {
-    let got = get::field(bytes, p, widths::RANK_BITS);
+    let got = get::field(bytes, p, widths::RANK_BITS, k);
     let Step::On(rank) = got else {
         return got;
     };
     if rank < low {
         return get::stop(refusal::FIELD, p);
     }
-    if k <= rank {
-        return get::stop(refusal::FIELD, p);
-    }
-    let at = p + widths::RANK_BITS;
-    let more = get::field(bytes, at, widths::JOINS_BITS);
-    let Step::On(joins) = more else {
+    let bit = p + widths::RANK_BITS;
+    let more = get::field(bytes, bit, widths::JOINS_BITS, n);
+    let Step::On(_) = more else {
         return more;
     };
-    if n <= joins {
-        return get::stop(refusal::FIELD, at);
-    }
     Step::On(rank)
 }
 
 // The same, both fields at once where the bytes are there; what is not legal is found again field by field.
 pub fn entry(bytes: &[u8], n: usize, k: usize, p: usize, low: usize) -> Step
-    requires { ⌜ p < 1073741824 ⌝ }
+    requires { ⌜ p < 2 ^ 30 ⌝ }
     ensures { λ x. ⌜ x ≡ step (entryTest (now (bytes .entry)) n k p low) (fieldAt (now (bytes .entry)) p 12) ⌝ }
 {
     let end = p / 8 + 4;
-    if bytes.len() < end {
-        return entry_fields(bytes, n, k, p, low);
+    if end <= bytes.len() {
+        let both = get::four(bytes, p);
+        let found = both / widths::JOINS_VALUES;
+        let joins = both % widths::JOINS_VALUES;
+        if low <= found {
+            if found < k {
+                if joins < n {
+                    return Step::On(found);
+                }
+            }
+        }
     }
-    let both = get::four(bytes, p);
-    let found = both / widths::JOINS_VALUES;
-    let joins = both % widths::JOINS_VALUES;
-    if found < low {
-        return entry_fields(bytes, n, k, p, low);
-    }
-    if k <= found {
-        return entry_fields(bytes, n, k, p, low);
-    }
-    if n <= joins {
-        return entry_fields(bytes, n, k, p, low);
-    }
-    Step::On(found)
+    entry_fields(bytes, n, k, p, low)
 }
 
 // The entries of a row, from bit p on.
 pub fn entries(bytes: &[u8], n: usize, k: usize, p: usize, count: usize) -> Verdict
-    requires { ⌜ (p < 536870912) × (count ≤ 256) ⌝ }
+    requires { ⌜ (p < 2 ^ 29) × (count ≤ 256) ⌝ }
     ensures { λ x. ⌜ x ≡ entriesFrom (now (bytes .entry)) n k p 0 count ⌝ }
 {
-    let mut at = p;
+    let mut bit = p;
     let mut low: usize = 0;
     let mut left = count;
     while 0 < left {
-        let got = entry(bytes, n, k, at, low);
+        let got = entry(bytes, n, k, bit, low);
         let Step::On(rank) = got else {
             return get::verdict(got);
         };
         low = rank + 1;
-        at += widths::ENTRY_BITS;
+        bit += widths::ENTRY_BITS;
         left -= 1;
     }
     Verdict::Fine
@@ -124,25 +113,22 @@ pub fn entries(bytes: &[u8], n: usize, k: usize, p: usize, count: usize) -> Verd
 
 // The row of frame v at bit p: the bit behind it, or the refusal.
 pub fn row(bytes: &[u8], n: usize, k: usize, w: usize, v: usize, p: usize) -> Step
-    requires { ⌜ p < 268435456 ⌝ }
+    requires { ⌜ p < 2 ^ 28 ⌝ }
     ensures { λ x. ⌜ x ≡ step (rowTest (now (bytes .entry)) n k w v p) (behind (now (bytes .entry)) p) ⌝ }
 {
-    let got = get::field(bytes, p, widths::COUNT_BITS);
+    let got = get::field(bytes, p, widths::COUNT_BITS, widths::LEGAL_COUNTS);
     let Step::On(count) = got else {
         return got;
     };
-    if 256 < count {
-        return get::stop(refusal::FIELD, p);
-    }
     if w < count {
         return get::stop(refusal::ROOM, v);
     }
-    let at = p + widths::COUNT_BITS;
-    let tested = entries(bytes, n, k, at, count);
+    let bit = p + widths::COUNT_BITS;
+    let tested = entries(bytes, n, k, bit, count);
     if let Verdict::Refused(f) = tested {
         return Step::Refused(f);
     }
-    Step::On(at + widths::ENTRY_BITS * count)
+    Step::On(bit + widths::ENTRY_BITS * count)
 }
 
 // All rows: how many were whole, the bit behind them, and what came next.
@@ -173,7 +159,7 @@ pub fn rows(bytes: &[u8], n: usize, k: usize, w: usize) -> Whole
 
 // The end of the layout at bit p: its fill bits, and that no byte follows.
 pub fn end(bytes: &[u8], p: usize) -> Verdict
-    requires { ⌜ (p < 536870912) × (byteLen p ≤ length (now bytes)) ⌝ }
+    requires { ⌜ (p < 2 ^ 29) × (byteLen p ≤ length (now bytes)) ⌝ }
     ensures { λ x. ⌜ x ≡ endTest (now (bytes .entry)) p ⌝ }
 {
     let used = (p + 7) / 8;
@@ -209,10 +195,8 @@ pub fn body(bytes: &[u8], n: usize, k: usize, w: usize) -> Verdict
 pub fn file(bytes: &[u8], w: usize, order: usize, labels: usize, counts: usize) -> Opened
     ensures { λ x. ⌜ x ≡ opened (readTest (now (bytes .entry)) w order labels counts) (framesOf (now (bytes .entry))) (stopOf (now (bytes .entry))) ⌝ }
 {
-    if w < 1 {
-        return get::closed(refusal::SIZE, 0);
-    }
-    if 256 < w {
+    let width = refusal::sizes::width_fits(w);
+    if !width {
         return get::closed(refusal::SIZE, 0);
     }
     let headed = crate::header(bytes);

@@ -4,13 +4,14 @@ use crate::Opened;
 use crate::widths;
 use refusal::Refusal;
 use refusal::Verdict;
-ghost use Prim.Native.Nat.{_+_, _/_, _≤_, _<_};
+ghost use Prim.Native.Nat.{_+_, _/_, _^_, _≤_, _<_};
 ghost use mathlib.Core.Path.{_≡_};
 ghost use lib.ListN.{length};
+ghost use lib.Dec.{ltb};
 ghost use Rattle.refusal.specs.Tests.{refusal};
 ghost use Rattle.file.specs.Bits.{fieldAt, byteLen};
-ghost use Rattle.file.specs.Reader.{shortTest};
-ghost use Rattle.file.specs.Steps.{Near, Inside, step, verdictOf};
+ghost use Rattle.file.specs.Reader.{fieldTest};
+ghost use Rattle.file.specs.Steps.{Near, step, verdictOf};
 
 // A number to go on with, or the refusal.
 pub enum Step {
@@ -44,7 +45,7 @@ pub fn verdict(taken: Step) -> Verdict
 
 // The value of the field of `width` bits at bit p.
 pub fn get(bytes: &[u8], p: usize, width: usize) -> usize
-    requires { ⌜ Inside (now bytes) p width ⌝ }
+    requires { ⌜ Near p width × (byteLen (p + width) ≤ length (now bytes)) ⌝ }
     ensures { λ r. ⌜ r ≡ fieldAt (now (bytes .entry)) p width ⌝ }
 {
     let end = (p + width + 7) / 8;
@@ -60,21 +61,30 @@ pub fn get(bytes: &[u8], p: usize, width: usize) -> usize
     top - high
 }
 
-// The same, or SHORT at p where the bytes end inside the field.
-pub fn field(bytes: &[u8], p: usize, width: usize) -> Step
+// The same where it is below `bound`; SHORT at p where the bytes end inside the field, FIELD at p where it is `bound` or
+// more.
+pub fn field(bytes: &[u8], p: usize, width: usize, bound: usize) -> Step
     requires { ⌜ Near p width ⌝ }
-    ensures { λ r. ⌜ r ≡ step (shortTest (now (bytes .entry)) p width) (fieldAt (now (bytes .entry)) p width) ⌝ }
+    ensures { λ r. ⌜
+        r
+        ≡ step (fieldTest (now (bytes .entry)) p width (ltb (fieldAt (now (bytes .entry)) p width) bound))
+        (fieldAt (now (bytes .entry)) p width)
+        ⌝ }
 {
     let end = (p + width + 7) / 8;
     if bytes.len() < end {
         return stop(refusal::SHORT, p);
     }
-    Step::On(get(bytes, p, width))
+    let value = get(bytes, p, width);
+    if bound <= value {
+        return stop(refusal::FIELD, p);
+    }
+    Step::On(value)
 }
 
 // The 24 bits at bit p, where four bytes from its own on are there.
 pub fn four(bytes: &[u8], p: usize) -> usize
-    requires { ⌜ (p < 1073741824) × (p / 8 + 4 ≤ length (now bytes)) ⌝ }
+    requires { ⌜ (p < 2 ^ 30) × (p / 8 + 4 ≤ length (now bytes)) ⌝ }
     ensures { λ r. ⌜ r ≡ fieldAt (now (bytes .entry)) p 24 ⌝ }
 {
     let at = p / 8;
@@ -90,7 +100,7 @@ pub fn four(bytes: &[u8], p: usize) -> usize
 
 // The same wherever they are there.
 pub fn pair(bytes: &[u8], p: usize) -> usize
-    requires { ⌜ (p < 1073741824) × (byteLen (p + 24) ≤ length (now bytes)) ⌝ }
+    requires { ⌜ (p < 2 ^ 30) × (byteLen (p + 24) ≤ length (now bytes)) ⌝ }
     ensures { λ r. ⌜ r ≡ fieldAt (now (bytes .entry)) p 24 ⌝ }
 {
     let end = p / 8 + 4;

@@ -6,8 +6,9 @@ use rows::entry::Entry;
 ghost use mathlib.Core.List.{[], _∷_};
 ghost use Prim.Native.Nat.{ℕ, _+_, _-_, _*_, _≤_, _<_};
 ghost use Rattle.file.specs.Bits.{field};
-ghost use Rattle.file.specs.Layout.{headerFields, orderFields, entryFields, rowFields, rowsFields};
-ghost use Rattle.file.specs.Pen.{Ready, Put, RowLies, Closed};
+ghost use Rattle.file.specs.Layout.{headerFields, orderFields, pairFields, entryFields, rowFields, rowsFields};
+ghost use Rattle.file.specs.Pen.{Ready, Put, Closed};
+ghost use Rattle.rows.specs.Rooms.{RowLies};
 
 // A pen: `at` bytes are finished, and `nb` bits, below eight, of value `acc` are not yet a byte.
 pub struct Pen {
@@ -39,8 +40,8 @@ pub fn put(out: &mut [u8], pen: Pen, value: usize, width: usize) -> Pen
 
 // Puts one entry, its rank and its joins, as one number: three bytes are then whole, and as many bits wait as before.
 pub fn put_entry(out: &mut [u8], pen: Pen, e: Entry) -> Pen
-    requires { ⌜ Ready (now out) pen (entryFields (e ∷ [])) ⌝ }
-    ensures { λ r. ⌜ Put (now (out .entry)) pen (entryFields (e ∷ [])) (now (out .exit)) r ⌝ }
+    requires { ⌜ Ready (now out) pen (pairFields e) ⌝ }
+    ensures { λ r. ⌜ Put (now (out .entry)) pen (pairFields e) (now (out .exit)) r ⌝ }
 {
     let rank = entry::rank_of(e);
     let joins = entry::joins_of(e);

@@ -21,7 +21,7 @@ use rows::rooms::total;
 pub fn sizes_fit(n: usize, w: usize, k: usize) -> bool
     ensures { λ r. ⌜ r ≡ indexSizes n k w ⌝ }
 {
-    let sizes = rows::rooms::sizes_fit(n, w);
+    let sizes = refusal::sizes::sizes_fit(n, w);
     if !sizes {
         return false;
     }

@@ -9,29 +9,21 @@ use native.Mathlib.Numerals.{add-one}
 use native.Mathlib.Decide.{ℕ-discrete}
 use lib.ListN.{length, getD}
 use lib.Dec.{leb, ltb, eqb}
-use borrow.Author.Tests.{le-leb, lt-leb, lt-ltb, le-ltb, eq-eqb, ne-eqb, leb-true, leb-false, ltb-false, eqb-true, eqb-false}
+use borrow.Author.Tests.{le-leb, lt-leb, lt-ltb, le-ltb, eq-eqb, ne-eqb, leb-false, ltb-false, eqb-true, eqb-false}
 use Rattle.basics.specs.Places.{first, some}
 use Rattle.basics.proofs.Laws.{by-cases, lt-or-ge, both, both-true, either-false, either-right, neither, not-of-true, not-of-false, of-not-true, of-not-false, cond-true, cond-false, first-before, first-none, some-none, some-one, some-found, some-not, some-first, none-first}
 use Rattle.refusal.specs.Numbers.{SIZE, LENGTH, STARTS, LINKS}
+use Rattle.refusal.specs.Sizes.{framesFit, placesFit}
 use Rattle.refusal.specs.Tests.{test, _then_, refusal}
 use Rattle.refusal.specs.declared.Verdict.the-variants.{Fine, Refused}
-use Rattle.refusal.proofs.Laws.{test-fine, test-refused, test-held, after-fine, after-refused, then-fine, then-assoc}
+use Rattle.refusal.proofs.Laws.{test-fine, test-refused, test-held, after-fine, after-refused, then-fine}
+use Rattle.refusal.proofs.SizeLaws.{frames-fit, frames-held, places-fit, places-held}
 use Rattle.theory.specs.Links.{Block, Link}
 use Rattle.theory.specs.Plain.{ones}
-use Rattle.links.specs.Links.{framesFit, placesFit, falls, startsRight, degree, holds, faultyLink, faultyList, startsTest, listsTest, checkLinks}
-use Rattle.links.specs.Inner.{sizesTest, Fits, Starts, ListIn, floorOf, faultyFrom}
+use Rattle.links.specs.Links.{falls, startsRight, degree, holds, faultyLink, faultyList, sizesTest, startsTest, listsTest, checkLinks}
+use Rattle.links.specs.Inner.{Fits, Starts, ListIn, floorOf, faultyFrom}
 
 -- ---- sizes and lengths
-
-pub frames-fit : (n : ℕ) → 1 ≤ n → n ≤ 4096 → framesFit n ≡ true
-unfolding framesFit
-frames-fit n one most = both _ _ (le-leb 1 n one) (le-leb n 4096 most)
-
-pub frames-held : (n : ℕ) → framesFit n ≡ true → (1 ≤ n) × (n ≤ 4096)
-unfolding framesFit
-frames-held n e =
-    let (one, most) = both-true (leb 1 n) (leb n 4096) e in
-    (leb-true _ _ one, leb-true _ _ most)
 
 -- sizes that fit leave the length, and others are refused
 pub sizes-in : (n : ℕ) (S L : List ℕ) → framesFit n && placesFit (length L) ≡ true
@@ -45,13 +37,12 @@ sizes-out n S L e = after-refused _ (test-refused _ _ e)
 
 -- sizes and lengths that fit pass tests 1 and 2, and no others do
 pub sizes-pass : (n : ℕ) (S L : List ℕ) → Fits n S L → sizesTest n S L ≡ Fine
-unfolding placesFit
 sizes-pass n S L f =
-    sizes-in n S L (both _ _ (frames-fit n (f .one) (f .frames)) (le-leb (length L) 65536 (f .places)))
+    sizes-in n S L (both _ _ (frames-fit n (f .one) (f .frames)) (places-fit (length L) (f .places)))
     ∙ test-fine _ _ (eq-eqb (length S) (n + 1) (f .long))
 
 pub sizes-held : (n : ℕ) (S L : List ℕ) → sizesTest n S L ≡ Fine → Fits n S L
-unfolding sizesTest placesFit
+unfolding sizesTest
 sizes-held n S L fine =
     let (sizes, long) = then-fine _ _ fine in
     let (frames, places) = both-true (framesFit n) (placesFit (length L)) (test-held _ _ _ sizes) in
@@ -59,21 +50,14 @@ sizes-held n S L fine =
     record {
       one = one;
       frames = most;
-      places = leb-true _ _ places;
+      places = places-held _ places;
       long = eqb-true _ _ (test-held _ _ _ long);
     }
 
--- check links is tests 1 and 2, and then 3 and 4
-pub links-split : (n : ℕ) (S L : List ℕ) → checkLinks n S L ≡ (sizesTest n S L then (startsTest n S L then listsTest n S L))
-unfolding checkLinks sizesTest
-links-split n S L = sym (then-assoc _ _ _)
-
 -- where sizes and lengths fit, check links is tests 3 and 4
-pub links-alone : (n : ℕ) (S L : List ℕ) → 1 ≤ n → n ≤ 4096 → length L ≤ 65536 → length S ≡ n + 1
-    → checkLinks n S L ≡ (startsTest n S L then listsTest n S L)
-links-alone n S L one most room long =
-    links-split n S L
-    ∙ after-fine _ (sizes-pass n S L (record { one = one; frames = most; places = room; long = long }))
+pub links-alone : (n : ℕ) (S L : List ℕ) → Fits n S L → checkLinks n S L ≡ (startsTest n S L then listsTest n S L)
+unfolding checkLinks
+links-alone n S L f = after-fine _ (sizes-pass n S L f)
 
 -- ---- start positions
 
@@ -123,9 +107,7 @@ starts-kept n S L right fits =
     both-true (eqb (getD S 0 0) 0 && not (some (falls S) 0 n)) (eqb (getD S n 0) (length L)) right in
     let (front, rise) = both-true (eqb (getD S 0 0) 0) (not (some (falls S) 0 n)) begin in
     record {
-      frames = fits .frames;
-      places = fits .places;
-      long = fits .long;
+      fits = fits;
       front = eqb-true _ _ front;
       rise = λ v h. ltb-false _ _ (some-not (falls S) 0 n v (of-not-true _ rise) (omega arith) (omega arith));
       last = eqb-true _ _ last;
@@ -147,11 +129,11 @@ starts-within {n} S s v h = omega (arith, s .last, starts-rise S s v n h (omega 
 
 pub list-in : {n : ℕ} (S : List ℕ) {L : List ℕ} → Starts n S L → (v : ℕ) → v < n → ListIn S L v
 list-in S s v h = record {
-  frame = omega (arith, s .long);
+  frame = omega (arith, s .fits .long);
   rise = s .rise v h;
   within = starts-within S s (v + 1) (omega arith);
-  few = omega (arith, s .frames);
-  places = s .places;
+  few = omega (arith, s .fits .frames);
+  places = s .fits .places;
 }
 
 -- ---- the mirror
@@ -205,7 +187,7 @@ module _ (n : ℕ) (S L : List ℕ) (v floor w : ℕ) where
   link-fine inside apart above mirror =
       neither _ _ (neither _ _ (neither _ _ (lt-leb n w inside) (ne-eqb w v apart)) (le-ltb w floor above)) (not-of-true mirror)
 
--- the least number that may stand: at the front any, behind a link more than that
+-- the least frame that may stand: at the front any, behind a link one above it
 pub floor-front : (S L : List ℕ) (v i : ℕ) → i ≤ getD S v 0 → floorOf S L v i ≡ 0
 unfolding floorOf
 floor-front S L v i h = cond-false _ _ (le-ltb (getD S v 0) i h)
@@ -263,15 +245,14 @@ holds-link S L w v e =
     record { at = i; from = low; upto = omega arith; holds = eqb-true _ _ there; costs = refl }
 
 -- tests 3 and 4 passed give a block
-pub links-sound : (n : ℕ) (S L : List ℕ) → startsTest n S L ≡ Fine → listsTest n S L ≡ Fine → 1 ≤ n → n ≤ 4096
-    → length L ≤ 65536 → length S ≡ n + 1 → Block n 1 S L ones
-links-sound n S L starts lists one most room long =
-    let fits : Fits n S L = record { one = one; frames = most; places = room; long = long } in
+pub links-sound : (n : ℕ) (S L : List ℕ) → Fits n S L → startsTest n S L ≡ Fine → listsTest n S L ≡ Fine
+    → Block n 1 S L ones
+links-sound n S L fits starts lists =
     let s : Starts n S L = starts-kept n S L (right-starts n S L starts) fits in
     let at : (v i : ℕ) → v < n → getD S v 0 ≤ i → i < getD S (v + 1) 0 → Sound n S L v i = lists-sound n S L lists in
     record {
-      some = one;
-      long = long;
+      some = fits .one;
+      long = fits .long;
       front = s .front;
       rise = s .rise;
       last = s .last;
@@ -331,4 +312,5 @@ module _ {n : ℕ} (S L : List ℕ) (b : Block n 1 S L ones) where
       (λ v low high.
       some-none (faultyLink n S L v) (getD S v 0) (degree S v)
       (λ i from upto. block-link v i (omega arith) from (omega arith))) in
-      links-alone n S L (b .some) most room (b .long) ∙ tests-fine n S L n block-starts (omega arith) refl
+      links-alone n S L record { one = b .some; frames = most; places = room; long = b .long }
+      ∙ tests-fine n S L n block-starts (omega arith) refl

@@ -19,7 +19,7 @@ pub record Frames (n : ℕ) (S L C : List ℕ) (v : ℕ) : Type 0 where
   pub cursors : Cursors S C
   pub rest : first (faultyList n S L) v (n - v) ≡ first (faultyList n S L) 0 n
 
--- the links of v's list before place i are sound, and `floor` is the least that may stand there
+-- the links of v's list before place i are sound, and `floor` is the least frame that may stand there
 pub record Links (n : ℕ) (S L C : List ℕ) (v i floor : ℕ) : Type 0 where
   pub from : getD S v 0 ≤ i
   pub upto : i ≤ getD S (v + 1) 0

@@ -5,21 +5,21 @@ use mathlib.Core.Path.{_≡_, refl, sym, ap, _∙_}
 use mathlib.Core.Bool.{Bool, true, false}
 use mathlib.Core.List.{List}
 use native.Mathlib.Omega.{arith}
-use native.Mathlib.Decide.{ℕ-discrete}
 use native.Mathlib.Nat.{sub-zero}
 use lib.ListN.{length, getD, set, replicate, length-set, length-replicate, getD-replicate}
 use lib.Dec.{leb, eqb}
 use borrow.Author.Tests.{le-leb, lt-leb, eq-eqb, ne-eqb, leb-false, eqb-true, eqb-false}
 use Rattle.basics.specs.Places.{first, some}
-use Rattle.basics.proofs.Laws.{by-cases, either-false, either-left, either-right, neither, same-truth, first-before, first-none, first-here, first-step, first-over, some-end, some-one, some-found, some-not, some-none, at-set}
+use Rattle.basics.proofs.Laws.{either-false, either-left, either-right, neither, first-before, first-none, first-here, first-step, first-over, some-not, some-none, stands-at, stands-none, stands-other, at-set}
 use Rattle.refusal.specs.Numbers.{SIZE, LENGTH, ORDER}
 use Rattle.refusal.specs.Tests.{refusal}
 use Rattle.refusal.specs.declared.Verdict.the-variants.{Fine, Refused}
 use Rattle.refusal.proofs.Laws.{test-fine, test-refused, test-held, after-fine, after-refused}
-use Rattle.theory.specs.Links.{Order}
-use Rattle.links.specs.Links.{framesFit}
-use Rattle.links.proofs.Links.{frames-fit}
+use Rattle.theory.specs.Links.{Order, hubOf}
+use Rattle.refusal.specs.Sizes.{framesFit}
+use Rattle.refusal.proofs.SizeLaws.{frames-fit}
 use Rattle.links.specs.Order.{stands, faultyRank, orderTest, checkOrder}
+use Rattle.links.specs.Inner.{Seen}
 
 -- ---- sizes and lengths
 
@@ -62,90 +62,77 @@ module _ (n : ℕ) (f : ℕ → ℕ) where
   unfolding faultyRank stands
   sound-new r e = either-false (leb n (f r)) _ e .1
 
--- no frame stands below rank 0
-pub stands-none : (f : ℕ → ℕ) (v : ℕ) → stands f 0 v ≡ false
-unfolding stands
-stands-none f v = some-end _ 0
+-- no frame seen yet
+pub seen-none : (f : ℕ → ℕ) → Seen f (replicate 4096 false) 0
+seen-none f = record {
+  long = length-replicate 4096 false;
+  has = λ v small. getD-replicate 4096 v false false small ∙ sym (stands-none f v);
+}
 
--- below the next rank stands the frame of this one, and what stood before
-pub stands-this : (f : ℕ → ℕ) (r v : ℕ) → v ≡ f r → stands f (r + 1) v ≡ true
-unfolding stands
-stands-this f r v e = some-one (λ j. eqb (f j) v) 0 (r + 1) r (omega arith) (omega arith) (eq-eqb (f r) v (sym e))
+module _ {f : ℕ → ℕ} {seen : List Bool} {r v : ℕ} (s : Seen f seen r) (e : v ≡ f r) (small : v < 4096) where
+  -- what the flags say of the next frame
+  pub seen-says : {b : Bool} → getD seen v false ≡ b → stands f r (f r) ≡ b
+  seen-says q = ap (stands f r) (sym e) ∙ sym (s .has v small) ∙ q
 
-pub stands-other : (f : ℕ → ℕ) (r v : ℕ) → (v ≡ f r → ⊥) → stands f (r + 1) v ≡ stands f r v
-unfolding stands
-stands-other f r v apart =
-    same-truth _ _
-    (λ t.
-    let (j, low, high, e) = some-found (λ j. eqb (f j) v) 0 (r + 1) t in
-    by-cases (ℕ-discrete j r)
-    (λ (q : j ≡ r). absurd (apart (sym (eqb-true (f j) v e) ∙ ap f q)))
-    (λ q. some-one (λ j. eqb (f j) v) 0 r j low (omega arith) e))
-    (λ t.
-    let (j, low, high, e) = some-found (λ j. eqb (f j) v) 0 r t in
-    some-one (λ j. eqb (f j) v) 0 (r + 1) j low (omega arith) e)
+  -- it is seen from now on
+  pub seen-on : Seen f (set seen v true) (r + 1)
+  seen-on = record {
+    long = length-set seen v true ∙ s .long;
+    has = λ u low.
+        at-set seen v u true false (stands f (r + 1) u) (omega (arith, s .long))
+        (λ q. sym (ap (stands f (r + 1)) (q ∙ e) ∙ stands-at f (r + 1) r (omega arith)))
+        (λ q. s .has u low ∙ sym (stands-other f r u (λ i. q (i ∙ sym e))));
+  }
 
 -- what the pass keeps: the frames seen are those that stand below rank r, and the lowest faulty rank lies from r on
-pub record Seen (n : ℕ) (O : List ℕ) (seen : List Bool) (r : ℕ) : Type 0 where
+pub record Passed (n : ℕ) (O : List ℕ) (seen : List Bool) (r : ℕ) : Type 0 where
   pub upto : r ≤ n
-  pub long : length seen ≡ 4096
-  pub has : (v : ℕ) → v < 4096 → getD seen v false ≡ stands (λ j. getD O j 0) r v
-  pub rest : first (faultyRank n (λ j. getD O j 0)) r (n - r) ≡ first (faultyRank n (λ j. getD O j 0)) 0 n
+  pub flags : Seen (hubOf O) seen r
+  pub rest : first (faultyRank n (hubOf O)) r (n - r) ≡ first (faultyRank n (hubOf O)) 0 n
 
-module _ {n : ℕ} {O : List ℕ} {seen : List Bool} {r : ℕ} (s : Seen n O seen r) where
+module _ {n : ℕ} {O : List ℕ} {seen : List Bool} {r : ℕ} (s : Passed n O seen r) where
   -- a faulty rank is the lowest
-  pub seen-stop : r < n → faultyRank n (λ j. getD O j 0) r ≡ true → orderTest n O ≡ Refused (refusal ORDER r)
+  pub passed-stop : r < n → faultyRank n (hubOf O) r ≡ true → orderTest n O ≡ Refused (refusal ORDER r)
   unfolding orderTest
-  seen-stop h bad =
-      let here : first (faultyRank n (λ j. getD O j 0)) 0 n ≡ r = sym (s .rest) ∙ first-here _ r n h bad in
+  passed-stop h bad =
+      let here : first (faultyRank n (hubOf O)) 0 n ≡ r = sym (s .rest) ∙ first-here _ r n h bad in
       rw here (test-refused ORDER r (ne-eqb r n (λ e. omega arith)))
 
   -- a frame seen before makes a faulty rank
-  pub seen-twice : n ≤ 4096 → r < n → getD O r 0 < n → getD seen (getD O r 0) false ≡ true
+  pub passed-twice : n ≤ 4096 → r < n → hubOf O r < n → getD seen (hubOf O r) false ≡ true
       → orderTest n O ≡ Refused (refusal ORDER r)
-  seen-twice most h low old =
-      seen-stop h (rank-again n (λ j. getD O j 0) r (sym (s .has (getD O r 0) (omega arith)) ∙ old))
+  passed-twice most h low old =
+      passed-stop h (rank-again n (hubOf O) r (seen-says (s .flags) refl (omega arith) old))
 
   -- a sound rank is passed, and its frame is seen from now on
-  pub seen-on : n ≤ 4096 → r < n → getD O r 0 < n → getD seen (getD O r 0) false ≡ false
-      → Seen n O (set seen (getD O r 0) true) (r + 1)
-  seen-on most h low new =
-      let f : ℕ → ℕ = λ j. getD O j 0 in
-      let inside : getD O r 0 < length seen = omega (arith, s .long) in
-      record {
-        upto = omega arith;
-        long = length-set seen (getD O r 0) true ∙ s .long;
-        has = λ v small.
-            at-set seen (getD O r 0) v true false (stands f (r + 1) v) inside
-            (λ e. sym (stands-this f r v e))
-            (λ e. s .has v small ∙ sym (stands-other f r v e));
-        rest =
-            first-step (faultyRank n f) r n h (rank-sound n f r low (sym (s .has (getD O r 0) (omega arith)) ∙ new))
-            ∙ s .rest;
-      }
+  pub passed-on : n ≤ 4096 → r < n → hubOf O r < n → getD seen (hubOf O r) false ≡ false
+      → Passed n O (set seen (hubOf O r) true) (r + 1)
+  passed-on most h low new = record {
+    upto = omega arith;
+    flags = seen-on (s .flags) refl (omega arith);
+    rest =
+        first-step (faultyRank n (hubOf O)) r n h
+        (rank-sound n (hubOf O) r low (seen-says (s .flags) refl (omega arith) new))
+        ∙ s .rest;
+  }
 
   -- all ranks passed
-  pub seen-end : n ≤ r → orderTest n O ≡ Fine
+  pub passed-end : n ≤ r → orderTest n O ≡ Fine
   unfolding orderTest
-  seen-end h =
-      let here : first (faultyRank n (λ j. getD O j 0)) 0 n ≡ r = sym (s .rest) ∙ first-over _ r n h in
+  passed-end h =
+      let here : first (faultyRank n (hubOf O)) 0 n ≡ r = sym (s .rest) ∙ first-over _ r n h in
       rw here (test-fine ORDER r (eq-eqb r n (omega (arith, s .upto))))
 
 -- no rank passed yet
-pub seen-first : (n : ℕ) (O : List ℕ) → Seen n O (replicate 4096 false) 0
-seen-first n O = record {
-  upto = omega arith;
-  long = length-replicate 4096 false;
-  has = λ v small. getD-replicate 4096 v false false small ∙ sym (stands-none _ v);
-  rest = rw sub-zero refl;
-}
+pub passed-first : (n : ℕ) (O : List ℕ) → Passed n O (replicate 4096 false) 0
+passed-first n O = record { upto = omega arith; flags = seen-none (hubOf O); rest = rw sub-zero refl }
 
 -- ---- a passed test
 
 pub order-sound : (n : ℕ) (O : List ℕ) → orderTest n O ≡ Fine → length O ≡ n → Order n O
 unfolding orderTest
 order-sound n O fine long =
-    let f : ℕ → ℕ = λ j. getD O j 0 in
+    let f : ℕ → ℕ = hubOf O in
     let whole : first (faultyRank n f) 0 n ≡ n = eqb-true _ _ (test-held _ _ _ fine) in
     let sound : (r : ℕ) → r < n → faultyRank n f r ≡ false = λ r h.
     first-before (faultyRank n f) 0 n r (omega arith) (omega arith) in
@@ -160,7 +147,7 @@ order-sound n O fine long =
 pub order-passes : (n : ℕ) (O : List ℕ) → Order n O → orderTest n O ≡ Fine
 unfolding orderTest stands
 order-passes n O o =
-    let f : ℕ → ℕ = λ j. getD O j 0 in
+    let f : ℕ → ℕ = hubOf O in
     let end : first (faultyRank n f) 0 n ≡ 0 + n =
     first-none (faultyRank n f) 0 n
     (λ r low h.

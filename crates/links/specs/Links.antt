@@ -6,16 +6,9 @@ use lib.ListN.{length, getD}
 use lib.Dec.{leb, ltb, eqb}
 use Rattle.basics.specs.Places.{first, some}
 use Rattle.refusal.specs.Numbers.{SIZE, LENGTH, STARTS, LINKS}
+use Rattle.refusal.specs.Sizes.{framesFit, placesFit}
 use Rattle.refusal.specs.Tests.{test, _then_}
 use Rattle.refusal.specs.declared.Verdict.{Verdict}
-
--- n frames, 1 to 4,096
-unfoldable pub framesFit : ℕ → Bool
-framesFit n = leb 1 n && leb n 4096
-
--- neighbour places, at most 65,536
-unfoldable pub placesFit : ℕ → Bool
-placesFit l = leb l 65536
 
 -- the start position behind frame v falls
 abbrev pub falls : List ℕ → ℕ → Bool
@@ -52,6 +45,10 @@ faultyLink n S L v i =
 unfoldable pub faultyList : ℕ → List ℕ → List ℕ → ℕ → Bool
 faultyList n S L v = some (faultyLink n S L v) (getD S v 0) (degree S v)
 
+-- 1 and 2: sizes, then the length of the start positions
+unfoldable pub sizesTest : ℕ → List ℕ → List ℕ → Verdict
+sizesTest n S L = test (framesFit n && placesFit (length L)) SIZE 0 then test (eqb (length S) (n + 1)) LENGTH 0
+
 -- 3: start positions break their rule
 unfoldable pub startsTest : ℕ → List ℕ → List ℕ → Verdict
 startsTest n S L = test (startsRight n S L) STARTS 0
@@ -64,8 +61,4 @@ listsTest n S L =
 
 -- check links: 1 to 4
 unfoldable pub checkLinks : ℕ → List ℕ → List ℕ → Verdict
-checkLinks n S L =
-    test (framesFit n && placesFit (length L)) SIZE 0
-    then test (eqb (length S) (n + 1)) LENGTH 0
-    then startsTest n S L
-    then listsTest n S L
+checkLinks n S L = sizesTest n S L then startsTest n S L then listsTest n S L

@@ -2,29 +2,39 @@
 use refusal::Verdict;
 ghost use mathlib.Core.Path.{_≡_};
 ghost use Rattle.links.specs.Links.{checkLinks};
-ghost use Rattle.links.specs.Order.{checkOrder, ordered, degreeOf};
+ghost use Rattle.links.specs.Order.{checkOrder, degreeTests, ordered, degreeOf};
 
 mod once;
 mod ranks;
 mod scan;
 mod sizes;
 
-// Check links: tests 1 to 4 on n frames, their start positions and neighbour places.
-pub fn check_links(n: usize, starts: &[u32], places: &[u32]) -> Verdict
-    ensures { λ r. ⌜ r ≡ checkLinks n (now (starts .entry)) (now (places .entry)) ⌝ }
+// Tests 1 to 4 on n frames, their start positions and neighbour places, beside an order room of `room` places.
+fn block_tests(n: usize, starts: &[u32], places: &[u32], room: usize) -> Verdict
+    ensures { λ r. ⌜ r ≡ degreeTests n (now (starts .entry)) (now (places .entry)) room ⌝ }
 {
     let fits = sizes::tests(n, starts, places);
     let Verdict::Fine = fits else {
         return fits;
     };
+    if room != n {
+        return refusal::refused(refusal::LENGTH, 0);
+    }
     scan::tests(n, starts, places)
+}
+
+// Check links: tests 1 to 4. There is no order room: one of n places is never refused.
+pub fn check_links(n: usize, starts: &[u32], places: &[u32]) -> Verdict
+    ensures { λ r. ⌜ r ≡ checkLinks n (now (starts .entry)) (now (places .entry)) ⌝ }
+{
+    block_tests(n, starts, places, n)
 }
 
 // Check order: tests 1, 2 and 5 on an order of n frames.
 pub fn check_order(n: usize, order: &[u32]) -> Verdict
     ensures { λ r. ⌜ r ≡ checkOrder n (now (order .entry)) ⌝ }
 {
-    if sizes::frames_fit(n) {
+    if refusal::sizes::frames_fit(n) {
         if order.len() == n {
             return once::each_once(n, order);
         }
@@ -37,14 +47,7 @@ pub fn check_order(n: usize, order: &[u32]) -> Verdict
 pub fn order_by_degree(n: usize, starts: &[u32], places: &[u32], order: &mut [u32]) -> Verdict
     ensures { λ r. ⌜ ordered r (now (order .exit)) ≡ degreeOf n (now (starts .entry)) (now (places .entry)) (now (order .entry)) ⌝ }
 {
-    let fits = sizes::tests(n, starts, places);
-    let Verdict::Fine = fits else {
-        return fits;
-    };
-    if order.len() != n {
-        return refusal::refused(refusal::LENGTH, 0);
-    }
-    let links = scan::tests(n, starts, places);
+    let links = block_tests(n, starts, places, order.len());
     let Verdict::Fine = links else {
         return links;
     };

@@ -83,7 +83,7 @@ pub fn mirrored(starts: &[u32], places: &[u32], w: usize, v: usize, cursors: &mu
     false
 }
 
-// Whether a link to w breaks the rule of v's list, at a place where `floor` or more must stand.
+// Whether a link to w breaks the rule of v's list, at a place where no frame below `floor` may stand.
 pub fn faulty(
     n: usize,
     starts: &[u32],

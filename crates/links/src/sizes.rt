@@ -2,25 +2,15 @@
 use refusal::Verdict;
 ghost use mathlib.Core.Path.{_≡_};
 ghost use mathlib.Core.Bool.{_&&_};
-ghost use Rattle.links.specs.Links.{framesFit, placesFit};
-ghost use Rattle.links.specs.Inner.{sizesTest};
-
-// Whether n is 1 to 4,096.
-pub fn frames_fit(n: usize) -> bool
-    ensures { λ r. ⌜ r ≡ framesFit n ⌝ }
-{
-    if n < 1 {
-        return false;
-    }
-    n <= 4096
-}
+ghost use Rattle.refusal.specs.Sizes.{framesFit, placesFit};
+ghost use Rattle.links.specs.Links.{sizesTest};
 
 // Whether n and the number of neighbour places are in range.
 pub fn sizes_fit(n: usize, places: usize) -> bool
     ensures { λ r. ⌜ r ≡ framesFit n && placesFit places ⌝ }
 {
-    if frames_fit(n) {
-        return places <= 65536;
+    if refusal::sizes::frames_fit(n) {
+        return refusal::sizes::places_fit(places);
     }
     false
 }

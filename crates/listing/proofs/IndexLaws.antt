@@ -1,28 +1,24 @@
 -- The laws of the way from a file's bytes to its text: what each test that is passed, or refuses, makes of it.
 use Prim.Native.Nat.{ℕ, _*_, _≤_, _<_}
-use native.Mathlib.Nat.{zero-add}
 use native.Mathlib.Omega.{arith}
 use mathlib.Core.Path.{_≡_, refl, sym, ap, subst, _∙_}
 use mathlib.Core.Bool.{true}
-use mathlib.Core.List.{List, _++_}
+use mathlib.Core.List.{List}
 use lib.ListN.{length, take}
 use lib.Seq.{length-take-le}
-use lib.Dec.{leb}
 use borrow.Author.Tests.{le-leb, lt-leb}
-use Rattle.basics.specs.Places.{sum}
-use Rattle.refusal.specs.Numbers.{SIZE, ROW}
-use Rattle.refusal.specs.Tests.{test, _then_, refusal}
+use Rattle.refusal.specs.Numbers.{SIZE}
 use Rattle.refusal.specs.declared.Refusal.{Refusal}
 use Rattle.refusal.specs.declared.Verdict.{Verdict}
 use Rattle.refusal.proofs.Laws.{test-fine, test-refused, after-fine, after-refused}
 use Rattle.rows.specs.declared.spread.SpreadAnswer.{SpreadAnswer}
 use Rattle.rows.specs.Rooms.{soundRow, checkRows}
-use Rattle.rows.specs.Spread.{spreadBy, spreadOf, farthest}
+use Rattle.rows.specs.Spread.{spreadBy, spreadOf}
 use Rattle.rows.proofs.RoomLaws.{rows-sound}
 use Rattle.file.specs.declared.Opened.{Opened}
 use Rattle.file.specs.Reader.{framesOf, stopOf, headerTest, headerOf, readTest, readOf, filledIn, outcome, Outcome}
 use Rattle.file.proofs.Heading.{index-is, refused-is}
-use Rattle.listing.specs.Lines.{WIDTH, MOST, Cut, Shown, headText, linesText, refusedText}
+use Rattle.listing.specs.Lines.{WIDTH, MOST, Cut, Shown, refusedText}
 use Rattle.listing.specs.Listing.{indexText, fileText, readText, listingTest, listingOf}
 
 -- ---- the index
@@ -45,21 +41,10 @@ shown-by n spread {order} {labels} {counts} e cut =
           subst (λ (m : ℕ). soundRow m m WIDTH labels counts v ≡ true) (sym (rooms .each)) (sound v (omega (arith, rooms .each)));
     }
 
-pub text-shown : {a : SpreadAnswer} {spread : ℕ} (n k : ℕ) (order labels counts : List ℕ) → a ≡ SpreadAnswer.Spread spread
-    → headText n k (sum counts) spread ++ linesText WIDTH order labels counts 0 (length counts)
-    ≡ indexText a n k order labels counts
-unfolding indexText
-text-shown n k order labels counts e = sym (ap (λ (a : SpreadAnswer). indexText a n k order labels counts) e)
-
-pub text-refused : {a : SpreadAnswer} {r : Refusal} (n k : ℕ) (order labels counts : List ℕ) → a ≡ SpreadAnswer.Refused r
-    → refusedText ROW ≡ indexText a n k order labels counts
-unfolding indexText
-text-refused n k order labels counts e = sym (ap (λ (a : SpreadAnswer). indexText a n k order labels counts) e)
-
 -- ---- the reader's answer
 
 -- the text by the reader's answer and what it left in the rooms
-unfoldable openedText : Opened → List ℕ → List ℕ → List ℕ → List ℕ
+unfoldable pub openedText : Opened → List ℕ → List ℕ → List ℕ → List ℕ
 openedText (Opened.Index n k) order labels counts =
     indexText (spreadOf n WIDTH labels counts) n k order labels counts
 openedText (Opened.Refused r) order labels counts = refusedText (r .number)
@@ -71,34 +56,29 @@ unfolding filledIn openedText readText fileText
 filled-text Verdict.Fine s order labels counts = refl
 filled-text (Verdict.Refused r) s order labels counts = refl
 
-module _ (s order labels counts : List ℕ) {order' labels' counts' : List ℕ} {a : Opened}
-    (e : outcome a order' labels' counts' ≡ readOf s WIDTH order labels counts) where
-  read-text : openedText a order' labels' counts'
-      ≡ readText (readTest s WIDTH (length order) (length labels) (length counts)) s
-  unfolding readOf
-  read-text =
-      ap (λ (o : Outcome). openedText (o .answer) (o .order) (o .labels) (o .counts)) e
-      ∙ filled-text (readTest s WIDTH (length order) (length labels) (length counts)) s order labels counts
-
-  pub read-index : {n k : ℕ} → a ≡ Opened.Index n k
-      → indexText (spreadOf n WIDTH labels' counts') n k order' labels' counts'
-      ≡ readText (readTest s WIDTH (length order) (length labels) (length counts)) s
-  unfolding openedText
-  read-index f = sym (ap (λ (b : Opened). openedText b order' labels' counts') f) ∙ read-text
-
-  pub read-refused : {r : Refusal} → a ≡ Opened.Refused r
-      → refusedText (r .number) ≡ readText (readTest s WIDTH (length order) (length labels) (length counts)) s
-  unfolding openedText
-  read-refused f = sym (ap (λ (b : Opened). openedText b order' labels' counts') f) ∙ read-text
+-- the text of an answer that was found
+pub read-found : (s order labels counts : List ℕ) {order' labels' counts' : List ℕ} {a found : Opened}
+    → outcome a order' labels' counts' ≡ readOf s WIDTH order labels counts → a ≡ found
+    → openedText found order' labels' counts'
+    ≡ readText (readTest s WIDTH (length order) (length labels) (length counts)) s
+unfolding readOf
+read-found s order labels counts {order'} {labels'} {counts'} e f =
+    sym (ap (λ (b : Opened). openedText b order' labels' counts') f)
+    ∙ (ap (λ (o : Outcome). openedText (o .answer) (o .order) (o .labels) (o .counts)) e
+    ∙ filled-text (readTest s WIDTH (length order) (length labels) (length counts)) s order labels counts)
 
 -- ---- the header
+
+-- the text is that of what the tests come to
+text-of : (s : List ℕ) {v : Verdict} → listingTest s ≡ v → readText v s ≡ listingOf s
+unfolding listingOf
+text-of s e = sym (ap (λ (v : Verdict). readText v s) e)
 
 -- a refused header
 pub header-refused : (s : List ℕ) {a : Opened} {r : Refusal} → a ≡ headerOf s → a ≡ Opened.Refused r
     → refusedText (r .number) ≡ listingOf s
-unfolding headerOf listingTest listingOf readText
-header-refused s e f =
-    sym (ap (λ (v : Verdict). readText v s) (after-refused _ (refused-is (headerTest s) _ _ (sym f ∙ e))))
+unfolding headerOf listingTest readText
+header-refused s e f = text-of s (after-refused _ (refused-is (headerTest s) _ _ (sym f ∙ e)))
 
 module _ (s : List ℕ) {a : Opened} {n k : ℕ} (e : a ≡ headerOf s) (f : a ≡ Opened.Index n k) where
   fine : (headerTest s ≡ Verdict.Fine) × (framesOf s ≡ n)
@@ -109,22 +89,20 @@ module _ (s : List ℕ) {a : Opened} {n k : ℕ} (e : a ≡ headerOf s) (f : a �
 
   -- more than 256 frames
   pub over-frames : MOST < n → refusedText SIZE ≡ listingOf s
-  unfolding listingTest listingOf readText
+  unfolding listingTest readText
   over-frames more =
-      sym
-      (ap (λ (v : Verdict). readText v s)
+      text-of s
       (after-fine _ (fine .0)
-      ∙ after-refused _ (test-refused SIZE 0 (lt-leb (framesOf s) MOST (omega (arith, fine .1))))))
+      ∙ after-refused _ (test-refused SIZE 0 (lt-leb (framesOf s) MOST (omega (arith, fine .1)))))
 
   -- at most 256: the reader decides
   pub within-frames : n ≤ MOST → readText (readTest s WIDTH n (n * WIDTH) n) s ≡ listingOf s
-  unfolding listingTest listingOf
+  unfolding listingTest
   within-frames most =
-      subst (λ (m : ℕ). readText (readTest s WIDTH m (m * WIDTH) m) s ≡ readText (listingTest s) s) (fine .1)
-      (sym
-      (ap (λ (v : Verdict). readText v s)
+      subst (λ (m : ℕ). readText (readTest s WIDTH m (m * WIDTH) m) s ≡ listingOf s) (fine .1)
+      (text-of s
       (after-fine _ (fine .0)
-      ∙ after-fine _ (test-fine SIZE 0 (le-leb (framesOf s) MOST (omega (arith, fine .1)))))))
+      ∙ after-fine _ (test-fine SIZE 0 (le-leb (framesOf s) MOST (omega (arith, fine .1))))))
 
 -- ---- rooms cut to n frames
 

@@ -1,5 +1,5 @@
 -- The lines of the listing, as the paper prints them. A list of numbers is a text of bytes.
-use Prim.Native.Nat.{ℕ, zero, suc, _+_, _*_, _≤_, _<_}
+use Prim.Native.Nat.{ℕ, zero, suc, _*_, _≤_, _<_}
 use mathlib.Core.Path.{_≡_}
 use mathlib.Core.Bool.{true}
 use mathlib.Core.List.{List, [], _∷_, _++_}
@@ -44,20 +44,22 @@ newline = 10
 unfoldable pub entryText : List ℕ → ℕ → List ℕ
 entryText order e = (space ∷ decimal (getD order (rankOf e) 0)) ++ (colon ∷ decimal (joinsOf e))
 
+-- the texts of 0 to k - 1, one behind the other
+unfoldable pub texts : (ℕ → List ℕ) → ℕ → List ℕ
+texts text zero = []
+texts text (suc k) = texts text k ++ text k
+
 -- the entries of a row, in rank order
-unfoldable pub entriesText : List ℕ → List ℕ → List ℕ
-entriesText order [] = []
-entriesText order (e ∷ es) = entryText order e ++ entriesText order es
+abbrev pub entriesText : List ℕ → List ℕ → List ℕ
+entriesText order row = texts (λ i. entryText order (getD row i 0)) (length row)
 
 -- per frame its number and its entries; the number alone for an empty row
 unfoldable pub lineText : List ℕ → ℕ → List ℕ → List ℕ
 lineText order v row = decimal v ++ (entriesText order row ++ (newline ∷ []))
 
--- the lines of `left` frames from frame v on
-unfoldable pub linesText : ℕ → List ℕ → List ℕ → List ℕ → ℕ → ℕ → List ℕ
-linesText w order labels counts v zero = []
-linesText w order labels counts v (suc left) =
-    lineText order v (rowAt w labels counts v) ++ linesText w order labels counts (suc v) left
+-- the lines of frames 0 to n - 1
+abbrev pub linesText : ℕ → List ℕ → List ℕ → List ℕ → ℕ → List ℕ
+linesText w order labels counts n = texts (λ v. lineText order v (rowAt w labels counts v)) n
 
 -- 'frames ', ' hubs ', ' entries ', ' spread ' and 'refused '
 abbrev pub framesWord : List ℕ

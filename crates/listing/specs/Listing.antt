@@ -16,7 +16,7 @@ use Rattle.listing.specs.Lines.{WIDTH, MOST, headText, linesText, refuse
 -- first line, then a line per frame
 unfoldable pub indexText : SpreadAnswer → ℕ → ℕ → List ℕ → List ℕ → List ℕ → List ℕ
 indexText (SpreadAnswer.Spread spread) n k order labels counts =
-    headText n k (sum counts) spread ++ linesText WIDTH order labels counts 0 (length counts)
+    headText n k (sum counts) spread ++ linesText WIDTH order labels counts (length counts)
 indexText (SpreadAnswer.Refused r) n k order labels counts = refusedText ROW
 
 -- the index of n frames that a file gives

@@ -1,6 +1,5 @@
 // From a file's bytes to the text: the header, the test on the frames, the reader on rooms of just that length, the lines.
 ghost use mathlib.Core.Path.{_≡_};
-ghost use mathlib.Core.Bool.{not};
 ghost use Prim.Native.Nat.{_*_, _≤_};
 ghost use lib.ListN.{length};
 ghost use Rattle.rows.specs.Spread.{spreadOf};

@@ -1,7 +1,7 @@
 // The lines of the listing. A number takes at most twenty bytes, so an entry at most 42, and a line of 32 entries at
 // most 1,365.
 ghost use Prim.Native.Nat.{ℕ, _+_, _*_, _<_, _≤_};
-ghost use mathlib.Core.List.{_∷_, _++_};
+ghost use mathlib.Core.List.{_++_};
 ghost use lib.ListN.{length, getD};
 ghost use Rattle.rows.specs.Entry.{rankOf};
 ghost use Rattle.listing.specs.Text.{Put, decimal};
@@ -105,7 +105,7 @@ pub fn lines(out: &mut [u8], at: usize, order: &[u32], labels: &[Entry], counts:
     requires { ⌜ at + 1365 * length (now counts) ≤ length (now out) ⌝ }
     ensures put { λ r. ⌜
         Put (now (out .entry)) at
-        (linesText width (now (order .entry)) (now (labels .entry)) (now (counts .entry)) 0 (length (now (counts .entry))))
+        (linesText width (now (order .entry)) (now (labels .entry)) (now (counts .entry)) (length (now (counts .entry))))
         (now (out .exit)) r
         ⌝ }
     ensures near { λ r. ⌜ r ≤ at + 1365 * length (now (counts .entry)) ⌝ }

@@ -2,7 +2,7 @@
 -- number and place.
 use Prim.Native.Nat.{ℕ, _<_}
 use mathlib.Core.Path.{_≡_, refl, sym, ap, _∙_}
-use mathlib.Core.Bool.{Bool, true, false, _&&_}
+use mathlib.Core.Bool.{Bool, true, false}
 use native.Mathlib.Omega.{arith}
 use Rattle.refusal.specs.Tests.{test, _then_, refusal, numberOf, placeOf}
 use Rattle.refusal.specs.declared.Refusal.{Refusal}
@@ -55,12 +55,6 @@ pub then-assoc : (a b d : Verdict) → ((a then b) then d) ≡ (a then (b then d
 unfolding _then_
 then-assoc Fine b d = refl
 then-assoc (Refused r) b d = refl
-
--- two tests with one number and place are one
-pub test-both : (a b : Bool) (number place : ℕ) → test (a && b) number place ≡ (test a number place then test b number place)
-unfolding test _then_
-test-both true b number place = refl
-test-both false b number place = refl
 
 -- by cases on a verdict, with the equation
 pub vcase {ℓ} : {C : Type ℓ} (v : Verdict) → (v ≡ Fine → C) → ((r : Refusal) → v ≡ Refused r → C) → C

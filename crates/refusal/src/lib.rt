@@ -1,5 +1,7 @@
 // The refusal, as a value: a number and a place, 0 where none is named. The numbers 1 to 14 of the paper stand here and
 // in specs/Numbers.antt, and nowhere else.
+pub mod sizes;
+
 ghost use mathlib.Core.Path.{_≡_};
 ghost use Rattle.refusal.specs.Tests.{refusal};
 

@@ -1,19 +1,19 @@
 -- The laws of entries, of rows in a label room, and of sound rows.
-use Prim.Native.Nat.{ℕ, zero, suc, _+_, _-_, _*_, _/_, _%_, _≤_, _<_}
-use mathlib.Core.Path.{_≡_, refl, sym, ap, _∙_}
-use mathlib.Core.Bool.{Bool, true, false, cond, not, _&&_, _||_}
+use Prim.Native.Nat.{ℕ, zero, suc, _+_, _-_, _*_, _≤_, _<_}
+use mathlib.Core.Path.{_≡_, refl, ap, _∙_}
+use mathlib.Core.Bool.{true, false, not, _&&_, _||_}
 use mathlib.Core.List.{List, [], _∷_, _++_}
 use native.Mathlib.Nat.{suc-mul, mul-le-mul-right, add-sub-cancel, add-sub-cancel-left}
 use native.Mathlib.Omega.{arith}
-use borrow.Author.Tests.{ltb-true, leb-true, leb-false, ltb-false, lt-ltb, le-leb, lt-leb, le-ltb}
-use lib.ListN.{length, getD, take, drop, length-append, length-drop, length-take}
+use borrow.Author.Tests.{ltb-true, leb-true, leb-false, lt-ltb, le-leb, lt-leb, le-ltb}
+use lib.ListN.{length, getD, take, drop, length-drop}
 use lib.Seq.{getD-take, getD-drop, length-take-le}
 use lib.Dec.{leb, ltb}
-use Rattle.basics.proofs.Laws.{bcase, by-cases, lt-or-ge, three-ways, both-true, both, either-false, either-left, either-right, neither, cond-true, cond-false, not-both, of-not-true, not-of-false, some-not, some-none}
+use Rattle.basics.proofs.Laws.{bcase, lt-or-ge, both-true, both, either-false, either-left, either-right, neither, of-not-true, not-of-false, some-not, some-none}
 use Rattle.theory.specs.Rows.{Row}
 use Rattle.basics.specs.Places.{some}
 use Rattle.rows.specs.Entry.{rankOf, joinsOf, entryOf, decode, encode}
-use Rattle.rows.specs.Rooms.{part, partOf, partStart, inRoom, rowAt, faultyEntry, soundRow}
+use Rattle.rows.specs.Rooms.{part, inRoom, rowAt, faultyEntry, soundRow}
 
 -- ---- the entry
 
@@ -36,10 +36,6 @@ rank-small e h = omega arith
 pub joins-small : (e : ℕ) → joinsOf e < 65536
 unfolding joinsOf
 joins-small e = omega arith
-
-pub entry-fits : (rank joins : ℕ) → entryOf rank joins < 4294967296
-unfolding entryOf
-entry-fits rank joins = omega arith
 
 -- ---- lists of entries
 
@@ -93,14 +89,6 @@ getD-decode (e ∷ es) (suc i) h = getD-decode es i (omega arith)
 pub row-inside : {v n c w : ℕ} → v < n → c ≤ w → v * w + c ≤ n * w
 row-inside {v} {n} {c} {w} h k = omega (arith, suc-mul v w, mul-le-mul-right w h)
 
--- places of two rows are never the same
-pub row-apart : {u v a b w : ℕ} → (u ≡ v → ⊥) → a < w → b < w → u * w + a ≡ v * w + b → ⊥
-row-apart {u} {v} {a} {b} {w} h p q e =
-    three-ways u v
-    (λ l. omega (arith, row-inside {v = u} {n = v} {c = suc a} {w = w} l p))
-    h
-    (λ g. omega (arith, row-inside {v = v} {n = u} {c = suc b} {w = w} g q))
-
 pub in-room : (w : ℕ) (labels : List ℕ) (v count : ℕ) → v < 4096 → w ≤ 256 → v * w + count ≤ length labels
     → inRoom w labels v count ≡ true
 unfolding inRoom
@@ -123,18 +111,6 @@ not-in-room w labels v count never =
     let (h, k, l) = room-held w labels v count t in
     absurd (never h k l))
     (λ f. f)
-
-pub part-in-room : {n : ℕ} (w : ℕ) (labels : List ℕ) (v count : ℕ) → v < n → n ≤ 4096 → w ≤ 256 → count ≤ w
-    → length labels ≡ n * w → partOf w labels v count ≡ part w labels v count
-unfolding partOf
-part-in-room {n} w labels v count h k l m e =
-    cond-true _ _ (in-room w labels v count (omega arith) l (omega (arith, row-inside {v = v} {n = n} {c = count} {w = w} h m)))
-
-pub start-in-room : {n : ℕ} (w : ℕ) (labels : List ℕ) (v count : ℕ) → v < n → n ≤ 4096 → w ≤ 256 → count ≤ w
-    → length labels ≡ n * w → partStart w labels v count ≡ v * w
-unfolding partStart
-start-in-room {n} w labels v count h k l m e =
-    cond-true _ _ (in-room w labels v count (omega arith) l (omega (arith, row-inside {v = v} {n = n} {c = count} {w = w} h m)))
 
 pub getD-part : (w : ℕ) (labels : List ℕ) (v count i : ℕ) → i < count → getD (part w labels v count) i 0 ≡ getD labels (v * w + i) 0
 unfolding part
@@ -254,14 +230,3 @@ pub sound-row : (bound n w : ℕ) (labels counts : List ℕ) (v : ℕ) → getD 
 unfolding soundRow
 sound-row bound n w labels counts v h s =
     both _ _ (le-leb _ _ h) (not-of-false (of-sound bound n (rowAt w labels counts v) (getD counts v 0) s))
-
--- the ranks of a sound row rise from any place to any later one
-pub ranks-rise : {bound n : ℕ} {row : List ℕ} {count : ℕ} → Sound bound n row count → (i k : ℕ) → i + suc k < count
-    → rankOf (getD row i 0) < rankOf (getD row (i + suc k) 0)
-ranks-rise s i zero h = s .rising i h
-ranks-rise {row = row} s i (suc k) h =
-    let e : i + suc k + 1 ≡ i + suc (suc k) = omega arith in
-    let one : rankOf (getD row i 0) < rankOf (getD row (i + suc k) 0) = ranks-rise s i k (omega arith) in
-    let next : rankOf (getD row (i + suc k) 0) < rankOf (getD row (i + suc (suc k)) 0) =
-    rw e at (s .rising (i + suc k) (omega arith)) in
-    omega arith

@@ -24,9 +24,7 @@ use Rattle.rows.specs.Rooms.{rowAt}
 use Rattle.rows.specs.declared.merge.Meeting.{Meeting}
 use Rattle.rows.specs.declared.merge.Best.{Best}
 use Rattle.rows.specs.declared.merge.Best.the-variants.{Nowhere, Meet}
-use Rattle.rows.proofs.Laws.{row-sound}
-use Rattle.rows.proofs.PairLaws.{pair-asked, answer-fine}
-use Rattle.rows.proofs.RoomLaws.{length-row}
+use Rattle.rows.proofs.PairLaws.{pair-asked, sound-whole, answer-fine}
 
 -- ---- sums of meetings
 
@@ -216,13 +214,11 @@ pub pair-answer : (n w : ℕ) (labels counts : List ℕ) (s t : ℕ) → pairTes
     ≡ said (far 1 n) (answer (far 1 n) n (decode (rowAt w labels counts s)) (decode (rowAt w labels counts t)))
 pair-answer n w labels counts s t e =
     let asked = pair-asked n w labels counts s t e in
-    let (sc, ss) = row-sound n n w labels counts s (asked .first-sound) in
-    let (tc, ts) = row-sound n n w labels counts t (asked .second-sound) in
-    let sl = length-row (asked .rooms) s (asked .first) sc in
-    let tl = length-row (asked .rooms) t (asked .second) tc in
+    let one = sound-whole (asked .rooms) (asked .first) (asked .first-sound) in
+    let two = sound-whole (asked .rooms) (asked .second) (asked .second-sound) in
     ap countOf (answer-fine n w labels counts s t e refl)
     ∙ best-answer (far 1 n) n (rowAt w labels counts s) (rowAt w labels counts t) (two-fit n)
-    (λ i h. ss .rank i (omega arith)) (λ i h. ss .joins i (omega arith)) (λ i h. ts .joins i (omega arith))
+    (one .rank) (one .joins) (two .joins)
 
 -- ---- in the paper's words
 
@@ -244,19 +240,17 @@ pub pair-literal : (n w : ℕ) (labels counts : List ℕ) (s t : ℕ) → pairTe
     (countOf (pairOf n w labels counts s t))
 pair-literal n w labels counts s t e =
     let asked = pair-asked n w labels counts s t e in
-    let (sc, ss) = row-sound n n w labels counts s (asked .first-sound) in
-    let (tc, ts) = row-sound n n w labels counts t (asked .second-sound) in
-    let sl = length-row (asked .rooms) s (asked .first) sc in
-    let tl = length-row (asked .rooms) t (asked .second) tc in
+    let one = sound-whole (asked .rooms) (asked .first) (asked .first-sound) in
+    let two = sound-whole (asked .rooms) (asked .second) (asked .second-sound) in
     let x : Row = decode (rowAt w labels counts s) in
     let y : Row = decode (rowAt w labels counts t) in
     let low : (r m : ℕ) → In r m x → r < n =
     λ r m h.
     let (i, b, p, q) = in-decoded (rowAt w labels counts s) r m h in
-    omega (arith, ss .rank i (omega arith)) in
+    omega (arith, one .rank i b) in
     let small : (m : ℕ) → Shared x y m → m < far 1 n =
     λ m h.
     let (i, b, p, q) = in-decoded (rowAt w labels counts s) (h .rank) (h .first) (h .in-first) in
     let (j, d, f, g) = in-decoded (rowAt w labels counts t) (h .rank) (h .second) (h .in-second) in
-    omega (arith, ss .joins i (omega arith), ts .joins j (omega arith), h .whole, two-fit n) in
+    omega (arith, one .joins i b, two .joins j d, h .whole, two-fit n) in
     subst (Least (Shared x y)) (sym (pair-answer n w labels counts s t e)) (literal (far 1 n) n x y low small)

@@ -2,7 +2,7 @@
 -- nothing else; and it is told by the paper's numbers.
 use Prim.Native.Nat.{ℕ, _+_, _*_, _≤_, _<_}
 use mathlib.Core.Path.{_≡_, refl, sym, ap, _∙_}
-use mathlib.Core.Bool.{Bool, true, false, not, _&&_}
+use mathlib.Core.Bool.{not, _&&_}
 use mathlib.Core.List.{List}
 use native.Mathlib.Omega.{arith}
 use lib.ListN.{length, getD, take, drop, length-take, length-drop}
@@ -10,11 +10,13 @@ use lib.Dec.{leb, eqb}
 use lib.Seq.{ext-getD}
 use Rattle.basics.specs.Places.{some}
 use Rattle.basics.proofs.Laws.{lt-or-ge, not-both}
+use Rattle.refusal.specs.Numbers.{SIZE, LENGTH, FRAME, ROW}
 use Rattle.refusal.specs.Tests.{test, _then_}
 use Rattle.refusal.specs.declared.Verdict.{Verdict}
 use Rattle.refusal.specs.declared.Verdict.the-variants.{Fine, Refused}
 use Rattle.refusal.proofs.Laws.{vcase, Numbered, test-numbered, then-numbered}
-use Rattle.rows.specs.Rooms.{roomTests, roomsFit, sizesFit, frameTest, rowTest, part, rowAt, soundRow, faultyEntry}
+use Rattle.refusal.specs.Sizes.{sizesFit}
+use Rattle.rows.specs.Rooms.{roomTests, roomsFit, frameTest, frameTests, rowTest, part, rowAt, soundRow, faultyEntry}
 use Rattle.rows.specs.Meetings.{meetingOf}
 use Rattle.rows.specs.Pair.{pairTests, pairOf, answered, told, Told}
 use Rattle.rows.specs.declared.merge.Best.{Best}
@@ -23,7 +25,7 @@ use Rattle.rows.specs.declared.pair.Answer.{Answer}
 use Rattle.rows.specs.declared.pair.Answer.the-variants as answers
 use Rattle.rows.proofs.Laws.{getD-part, row-sound}
 use Rattle.rows.proofs.PairLaws.{pair-asked, answer-fine, answer-refused}
-use Rattle.rows.proofs.RoomLaws.{count-unsound}
+use Rattle.rows.proofs.RoomLaws.{count-unsound, rooms-numbered}
 
 -- ---- nothing else
 
@@ -61,16 +63,15 @@ sound-same bound n w labels counts labels' counts' v e same =
 tests-same : (n w : ℕ) (labels counts labels' counts' : List ℕ) (s t : ℕ) → length labels ≡ length labels'
     → length counts ≡ length counts' → SameRow w labels counts labels' counts' s → SameRow w labels counts labels' counts' t
     → pairTests n w labels counts s t ≡ pairTests n w labels' counts' s t
-unfolding pairTests roomTests roomsFit rowTest
+unfolding pairTests frameTests roomTests roomsFit rowTest
 tests-same n w labels counts labels' counts' s t e f first second =
     let p = sound-same n n w labels counts labels' counts' s e first in
     let q = sound-same n n w labels counts labels' counts' t e second in
     λ i.
-    (test (sizesFit n w) 1 0 then test (eqb (e i) (n * w) && eqb (f i) n) 2 0)
-    then frameTest n s 0
+    ((test (sizesFit n w) SIZE 0 then test (eqb (e i) (n * w) && eqb (f i) n) LENGTH 0) then frameTest n s 0)
     then frameTest n t 1
-    then test (p i) 9 s
-    then test (q i) 9 t
+    then test (p i) ROW s
+    then test (q i) ROW t
 
 pub pair-depends : (n w : ℕ) (labels counts labels' counts' : List ℕ) (s t : ℕ) → length labels ≡ length labels'
     → length counts ≡ length counts' → SameRow w labels counts labels' counts' s → SameRow w labels counts labels' counts' t
@@ -117,15 +118,10 @@ named-answered (Refused r) best p = p r refl
 
 -- every answer of the pair question is so named
 pub pair-named : (n w : ℕ) (labels counts : List ℕ) (s t : ℕ) → Named (pairOf n w labels counts s t)
-unfolding pairOf pairTests roomTests frameTest rowTest
+unfolding pairOf pairTests frameTests frameTest rowTest
 pair-named n w labels counts s t =
-    let one : 1 ≤ 1 = omega arith in
-    let two : 1 ≤ 2 = omega arith in
-    let eight : 1 ≤ 8 = omega arith in
-    let nine : 1 ≤ 9 = omega arith in
     named-answered (pairTests n w labels counts s t) _
-    (then-numbered (roomTests n w labels counts) _
-    (then-numbered (test (sizesFit n w) 1 0) _ (test-numbered _ 1 0 one) (test-numbered _ 2 0 two))
-    (then-numbered (frameTest n s 0) _ (test-numbered _ 8 0 eight)
-    (then-numbered (frameTest n t 1) _ (test-numbered _ 8 1 eight)
-    (then-numbered (rowTest n n w labels counts s) _ (test-numbered _ 9 s nine) (test-numbered _ 9 t nine)))))
+    (then-numbered (frameTests n w labels counts s) _
+    (then-numbered _ _ (rooms-numbered n w labels counts) (test-numbered _ FRAME 0 (omega arith)))
+    (then-numbered (frameTest n t 1) _ (test-numbered _ FRAME 1 (omega arith))
+    (then-numbered (rowTest n n w labels counts s) _ (test-numbered _ ROW s (omega arith)) (test-numbered _ ROW t (omega arith)))))

@@ -1,33 +1,34 @@
 -- The laws of the spread: in a row of rising ranks, rank 0 can only stand first.
-use Prim.Native.Nat.{ℕ, zero, suc, _+_, _*_, _≤_, _<_, max}
-use mathlib.Core.Path.{_≡_, refl, sym, ap, _∙_}
-use mathlib.Core.Bool.{true, false, cond}
+use Prim.Native.Nat.{ℕ, zero, suc, _*_, _≤_, _<_}
+use mathlib.Core.Path.{_≡_, refl, sym, ap}
+use mathlib.Core.Bool.{true}
 use mathlib.Core.List.{List, [], _∷_}
 use native.Mathlib.Numerals.{add-one}
 use native.Mathlib.Omega.{arith}
 use borrow.Author.Tests.{ne-eqb}
-use lib.ListN.{length, getD, drop}
+use lib.ListN.{length, getD}
 use lib.Dec.{eqb}
 use lib.Seq.{drop-cons}
 use Rattle.basics.proofs.Laws.{bcase}
-use Rattle.refusal.specs.Tests.{test}
+use Rattle.refusal.specs.Numbers.{ROW}
 use Rattle.refusal.specs.declared.Refusal.{Refusal}
 use Rattle.refusal.specs.declared.Verdict.{Verdict}
 use Rattle.refusal.specs.declared.Verdict.the-variants as verdicts
 use Rattle.refusal.proofs.Laws.{Numbered, test-numbered, then-numbered}
-use Rattle.rows.specs.Entry.{rankOf, joinsOf}
+use Rattle.rows.specs.Entry.{rankOf}
 use Rattle.rows.specs.Meetings.{Rises}
-use Rattle.rows.specs.Rooms.{Rooms, part, rowAt, soundRow, checkRows, roomTests, rowsTest, sizesFit}
-use Rattle.rows.specs.Spread.{farthestIn, frontJoins, farthest, spreadBy, spreadOf, spreadTold, SpreadTold}
+use Rattle.rows.specs.Rooms.{Rooms, part, rowAt, soundRow, checkRows, roomTests, rowsTest}
+use Rattle.rows.specs.Spread.{joinsAtZero, farthestIn, frontJoins, farthest, spreadBy, spreadOf, spreadTold, SpreadTold}
 use Rattle.rows.specs.declared.spread.SpreadAnswer.{SpreadAnswer}
 use Rattle.rows.specs.declared.spread.SpreadAnswer.the-variants.{Spread, Refused}
 use Rattle.rows.proofs.Laws.{joins-small}
+use Rattle.rows.proofs.RoomLaws.{rooms-numbered}
 use Rattle.rows.proofs.PairLaws.{row-in}
 
 -- ---- one row
 
 no-first : (row : List ℕ) → ((i : ℕ) → i < length row → 0 < rankOf (getD row i 0)) → farthestIn row ≡ 0
-unfolding farthestIn
+unfolding farthestIn joinsAtZero
 no-first [] h = refl
 no-first (e ∷ es) h =
     let rest : farthestIn es ≡ 0 = no-first es (λ i k. h (suc i) (omega arith)) in
@@ -55,22 +56,20 @@ unfolding frontJoins rowAt part
 no-front w labels counts v e = rw e refl
 
 front-part : (w : ℕ) (labels : List ℕ) (v count : ℕ) → 0 < count → v * w < length labels
-    → frontJoins (part w labels v count)
-    ≡ cond (eqb (rankOf (getD labels (v * w) 0)) 0) (joinsOf (getD labels (v * w) 0)) 0
+    → frontJoins (part w labels v count) ≡ joinsAtZero (getD labels (v * w) 0)
 unfolding frontJoins part
 front-part w labels v zero h k = absurd (omega arith)
 front-part w labels v (suc count) h k = rw (drop-cons labels (v * w) 0 k) refl
 
 pub front-entry : (w : ℕ) (labels counts : List ℕ) (v : ℕ) → 0 < getD counts v 0 → v * w < length labels
-    → frontJoins (rowAt w labels counts v)
-    ≡ cond (eqb (rankOf (getD labels (v * w) 0)) 0) (joinsOf (getD labels (v * w) 0)) 0
+    → frontJoins (rowAt w labels counts v) ≡ joinsAtZero (getD labels (v * w) 0)
 unfolding rowAt
 front-entry w labels counts v h k = front-part w labels v (getD counts v 0) h k
 
 -- ---- all rows
 
 small-in : (row : List ℕ) → farthestIn row < 65536
-unfolding farthestIn
+unfolding farthestIn joinsAtZero
 small-in [] = omega arith
 small-in (e ∷ es) =
     bcase (eqb (rankOf e) 0)
@@ -116,12 +115,7 @@ named-by (verdicts.Refused r) d p = p r refl
 
 -- every answer of the spread question is so named
 pub spread-named : (n w : ℕ) (labels counts : List ℕ) → SpreadNamed (spreadOf n w labels counts)
-unfolding spreadOf checkRows roomTests rowsTest
+unfolding spreadOf checkRows rowsTest
 spread-named n w labels counts =
-    let one : 1 ≤ 1 = omega arith in
-    let two : 1 ≤ 2 = omega arith in
-    let nine : 1 ≤ 9 = omega arith in
     named-by (checkRows n n w labels counts) (farthest w labels counts n)
-    (then-numbered (roomTests n w labels counts) _
-    (then-numbered (test (sizesFit n w) 1 0) _ (test-numbered _ 1 0 one) (test-numbered _ 2 0 two))
-    (test-numbered _ 9 _ nine))
+    (then-numbered (roomTests n w labels counts) _ (rooms-numbered n w labels counts) (test-numbered _ ROW _ (omega arith)))

@@ -1,13 +1,12 @@
 -- The pair question: its tests, its answer, and the paper's numbers for each case of the answer.
-use Prim.Native.Nat.{ℕ, _+_, _*_, _≤_, _<_}
+use Prim.Native.Nat.{ℕ}
 use mathlib.Core.Bool.{Bool, true, false}
 use mathlib.Core.List.{List}
-use lib.ListN.{length, getD}
 use Rattle.refusal.specs.Tests.{_then_}
 use Rattle.refusal.specs.declared.Verdict.{Verdict}
 use Rattle.refusal.specs.declared.Verdict.the-variants.{Fine, Refused}
 use Rattle.theory.specs.Chains.{Count, joins, none}
-use Rattle.rows.specs.Rooms.{roomTests, frameTest, rowTest, rowAt}
+use Rattle.rows.specs.Rooms.{frameTest, frameTests, rowTest, rowAt, RowLies}
 use Rattle.rows.specs.Meetings.{Rises, meetingOf}
 use Rattle.rows.specs.declared.merge.Best.{Best}
 use Rattle.rows.specs.declared.merge.Best.the-variants.{Nowhere, Meet}
@@ -17,8 +16,7 @@ use Rattle.rows.specs.declared.pair.Answer.the-variants as answers
 -- pair: 1, 2, 8, then 9 for the first frame, then for the second
 unfoldable pub pairTests : ℕ → ℕ → List ℕ → List ℕ → ℕ → ℕ → Verdict
 pairTests n w labels counts s t =
-    roomTests n w labels counts
-    then frameTest n s 0
+    frameTests n w labels counts s
     then frameTest n t 1
     then rowTest n n w labels counts s
     then rowTest n n w labels counts t
@@ -55,6 +53,5 @@ countOf (answers.Refused r) = none
 
 -- a row that lies in the room with rising ranks: what the merge is handed
 pub record RowIn (w : ℕ) (labels counts : List ℕ) (v : ℕ) : Type 0 where
-  pub counted : v < length counts
-  pub lies : v * w + getD counts v 0 ≤ length labels
+  pub row : RowLies w labels counts v
   pub rises : Rises (rowAt w labels counts v)

@@ -1,6 +1,6 @@
 -- The label room and the count room, and the tests on their rows: row v starts at place v * w and has as many used
 -- entries as the count room says.
-use Prim.Native.Nat.{ℕ, _+_, _-_, _*_, _≤_}
+use Prim.Native.Nat.{ℕ, _+_, _-_, _*_, _≤_, _<_}
 use mathlib.Core.Path.{_≡_}
 use mathlib.Core.Bool.{Bool, cond, not, _&&_, _||_}
 use mathlib.Core.List.{List, []}
@@ -8,13 +8,10 @@ use lib.ListN.{length, getD, take, drop}
 use lib.Dec.{leb, ltb, eqb}
 use Rattle.basics.specs.Places.{first, some, sum}
 use Rattle.refusal.specs.Numbers.{SIZE, LENGTH, FRAME, ROW}
+use Rattle.refusal.specs.Sizes.{sizesFit, Sizes}
 use Rattle.refusal.specs.Tests.{test, _then_}
 use Rattle.refusal.specs.declared.Verdict.{Verdict}
 use Rattle.rows.specs.Entry.{rankOf, joinsOf}
-
--- n from 1 to 4,096, W from 1 to 256
-unfoldable pub sizesFit : ℕ → ℕ → Bool
-sizesFit n w = leb 1 n && leb n 4096 && leb 1 w && leb w 256
 
 -- the label room has n * W places, the count room n
 unfoldable pub roomsFit : ℕ → ℕ → List ℕ → List ℕ → Bool
@@ -30,10 +27,7 @@ totalOf counts = cond (leb (length counts) 4096) (sum counts) 0
 
 -- what those two tests let through
 pub record Rooms (n w : ℕ) (labels counts : List ℕ) : Type 0 where
-  pub some-frames : 1 ≤ n
-  pub frames : n ≤ 4096
-  pub some-width : 1 ≤ w
-  pub width : w ≤ 256
+  pub sizes : Sizes n w
   pub places : length labels ≡ n * w
   pub each : length counts ≡ n
 
@@ -57,6 +51,11 @@ partStart w labels v count = cond (inRoom w labels v count) (v * w) 0
 unfoldable pub rowAt : ℕ → List ℕ → List ℕ → ℕ → List ℕ
 rowAt w labels counts v = part w labels v (getD counts v 0)
 
+-- row v lies in the label room, whatever its entries are
+pub record RowLies (w : ℕ) (labels counts : List ℕ) (v : ℕ) : Type 0 where
+  pub counted : v < length counts
+  pub lies : v * w + getD counts v 0 ≤ length labels
+
 -- entry i of a row breaks the rule: rank not below the bound, joins not below n, or rank not above the one before
 unfoldable pub faultyEntry : ℕ → ℕ → List ℕ → ℕ → Bool
 faultyEntry bound n row i =
@@ -69,6 +68,10 @@ unfoldable pub soundRow : ℕ → ℕ → ℕ → List ℕ → List ℕ → ℕ 
 soundRow bound n w labels counts v =
     leb (getD counts v 0) w && not (some (faultyEntry bound n (rowAt w labels counts v)) 0 (getD counts v 0))
 
+-- row v is not sound
+abbrev pub unsound : ℕ → ℕ → ℕ → List ℕ → List ℕ → ℕ → Bool
+unsound bound n w labels counts v = not (soundRow bound n w labels counts v)
+
 -- 8: the asked frame is n or more
 unfoldable pub frameTest : ℕ → ℕ → ℕ → Verdict
 frameTest n v place = test (ltb v n) FRAME place
@@ -80,13 +83,17 @@ rowTest bound n w labels counts v = test (soundRow bound n w labels counts v) RO
 -- 9 for all rows: the lowest frame whose row is not sound
 unfoldable pub rowsTest : ℕ → ℕ → ℕ → List ℕ → List ℕ → Verdict
 rowsTest bound n w labels counts =
-    let v : ℕ = first (λ u. not (soundRow bound n w labels counts u)) 0 n in
+    let v : ℕ = first (unsound bound n w labels counts) 0 n in
     test (eqb v n) ROW v
 
 -- the test of all rows for a bound: 1, 2, 9
 unfoldable pub checkRows : ℕ → ℕ → ℕ → List ℕ → List ℕ → Verdict
 checkRows bound n w labels counts = roomTests n w labels counts then rowsTest bound n w labels counts
 
+-- 1, 2, 8: the rooms, then the one frame asked, or the first of two
+unfoldable pub frameTests : ℕ → ℕ → List ℕ → List ℕ → ℕ → Verdict
+frameTests n w labels counts v = roomTests n w labels counts then frameTest n v 0
+
 -- the row check: 1, 2, 8, 9
 unfoldable pub checkRow : ℕ → ℕ → List ℕ → List ℕ → ℕ → Verdict
-checkRow n w labels counts v = roomTests n w labels counts then frameTest n v 0 then rowTest n n w labels counts v
+checkRow n w labels counts v = frameTests n w labels counts v then rowTest n n w labels counts v

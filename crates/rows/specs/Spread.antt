@@ -10,15 +10,19 @@ use Rattle.rows.specs.Rooms.{rowAt, checkRows}
 use Rattle.rows.specs.declared.spread.SpreadAnswer.{SpreadAnswer}
 use Rattle.rows.specs.declared.spread.SpreadAnswer.the-variants.{Spread, Refused}
 
+-- the joins of an entry of rank 0; 0 for any other
+unfoldable pub joinsAtZero : ℕ → ℕ
+joinsAtZero e = cond (eqb (rankOf e) 0) (joinsOf e) 0
+
 -- the largest joins among the entries of rank 0 of a row, or 0
 unfoldable pub farthestIn : List ℕ → ℕ
 farthestIn [] = 0
-farthestIn (e ∷ es) = max (cond (eqb (rankOf e) 0) (joinsOf e) 0) (farthestIn es)
+farthestIn (e ∷ es) = max (joinsAtZero e) (farthestIn es)
 
 -- the joins of a row's first entry if it is of rank 0, or 0
 unfoldable pub frontJoins : List ℕ → ℕ
 frontJoins [] = 0
-frontJoins (e ∷ es) = cond (eqb (rankOf e) 0) (joinsOf e) 0
+frontJoins (e ∷ es) = joinsAtZero e
 
 -- the largest joins among the used entries of rank 0 of rows 0 to k - 1, or 0
 unfoldable pub farthest : ℕ → List ℕ → List ℕ → ℕ → ℕ

@@ -1,12 +1,12 @@
 // The tests on a label room and a count room: SIZE, LENGTH, and ROW for all rows or for one.
 ghost use mathlib.Core.Path.{_≡_};
 ghost use Rattle.rows.specs.Rooms.{checkRow, checkRows};
+use crate::asked::check_entries;
+use crate::asked::check_frame;
 use crate::entry::Entry;
 use crate::rooms::check_rooms;
 use crate::sound::first_unsound;
-use crate::sound::sound_row;
 use refusal;
-use refusal::FRAME;
 use refusal::ROW;
 use refusal::Verdict;
 
@@ -30,15 +30,9 @@ pub fn check_rows(bound: usize, n: usize, w: usize, labels: &[Entry], counts: &[
 pub fn check_row(n: usize, w: usize, labels: &[Entry], counts: &[u32], v: usize) -> Verdict
     ensures { λ r. ⌜ r ≡ checkRow n w (now (labels .entry)) (now (counts .entry)) v ⌝ }
 {
-    let rooms = check_rooms(n, w, labels, counts);
-    let Verdict::Fine = rooms else {
-        return rooms;
+    let frame = check_frame(n, w, labels, counts, v);
+    let Verdict::Fine = frame else {
+        return frame;
     };
-    if n <= v {
-        return refusal::refused(FRAME, 0);
-    }
-    if !sound_row(n, n, w, labels, counts, v) {
-        return refusal::refused(ROW, v);
-    }
-    Verdict::Fine
+    check_entries(n, w, labels, counts, v)
 }

@@ -2,6 +2,7 @@
 // the spread.
 mod asked;
 pub mod check;
+mod cut;
 pub mod entry;
 mod farthest;
 pub mod lookup;

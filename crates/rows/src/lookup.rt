@@ -5,8 +5,8 @@ ghost use denote.Ref.{ptr};
 ghost use Rattle.rows.specs.Entry.{entryBytes};
 ghost use Rattle.rows.specs.Lookup.{rowOf, rowStart};
 use crate::check::check_row;
+use crate::cut::cut;
 use crate::entry::Entry;
-use crate::part::row_part;
 use refusal::Verdict;
 
 // The used part of the row of v, and the empty part at the room's front where the row check refuses.
@@ -31,5 +31,5 @@ pub fn row<'a, 'b>(
         return &labels[0..0];
     };
     let count = counts[v] as usize;
-    row_part(labels, w, v, count)
+    cut(labels, w, v, count)
 }

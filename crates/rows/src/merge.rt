@@ -5,6 +5,7 @@ ghost use mathlib.Core.Path.{_≡_};
 ghost use Rattle.rows.specs.Meetings.{atRank, bestOf, lesserBy, meetingOf, pastBy, Rises};
 ghost use Rattle.rows.specs.Pair.{RowIn};
 ghost use Rattle.rows.specs.Rooms.{rowAt};
+use crate::cut::cut;
 use crate::entry::Entry;
 use crate::entry::joins_of;
 use crate::entry::rank_of;
@@ -91,7 +92,7 @@ pub fn merge(a: &[Entry], b: &[Entry]) -> Best
     best_of(least)
 }
 
-// The best meeting of the rows of two frames: each part starts at v * W and is as long as its count.
+// The best meeting of the rows of two frames.
 pub fn meet(w: usize, labels: &[Entry], counts: &[u32], s: usize, t: usize) -> Best
     requires { ⌜ RowIn w (now labels) (now counts) s × RowIn w (now labels) (now counts) t ⌝ }
     ensures { λ r. ⌜
@@ -99,9 +100,7 @@ pub fn meet(w: usize, labels: &[Entry], counts: &[u32], s: usize, t: usize) -> B
         (rowAt w (now (labels .entry)) (now (counts .entry)) t)
         ⌝ }
 {
-    let first = s * w;
-    let first_end = first + counts[s] as usize;
-    let second = t * w;
-    let second_end = second + counts[t] as usize;
-    merge(&labels[first..first_end], &labels[second..second_end])
+    let first = cut(labels, w, s, counts[s] as usize);
+    let second = cut(labels, w, t, counts[t] as usize);
+    merge(first, second)
 }

@@ -4,6 +4,7 @@ ghost use Prim.Native.Nat.{_+_, _*_};
 ghost use denote.Ref.{ptr};
 ghost use Rattle.rows.specs.Entry.{entryBytes};
 ghost use Rattle.rows.specs.Rooms.{inRoom, partOf, partStart};
+use crate::cut::cut;
 use crate::entry::Entry;
 
 // Whether `count` entries of row v lie in the room. A room has at most 4,096 rows, so that frame numbers are below that,
@@ -35,7 +36,5 @@ pub fn row_part(labels: &[Entry], w: usize, v: usize, count: usize) -> &[Entry]
     if !lies {
         return &labels[0..0];
     }
-    let start = v * w;
-    let end = start + count;
-    &labels[start..end]
+    cut(labels, w, v, count)
 }

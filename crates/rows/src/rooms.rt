@@ -2,34 +2,18 @@
 // sum of a count room.
 ghost use mathlib.Core.Path.{_≡_};
 ghost use Prim.Native.Nat.{_*_, _≤_};
-ghost use Rattle.rows.specs.Rooms.{sizesFit, roomTests, totalOf};
+ghost use Rattle.rows.specs.Rooms.{roomTests, totalOf};
 use crate::entry::Entry;
 use refusal;
 use refusal::LENGTH;
 use refusal::SIZE;
 use refusal::Verdict;
 
-// Whether n is from 1 to 4,096 and W from 1 to 256.
-pub fn sizes_fit(n: usize, w: usize) -> bool
-    ensures { λ r. ⌜ r ≡ sizesFit n w ⌝ }
-{
-    if n < 1 {
-        return false;
-    }
-    if 4096 < n {
-        return false;
-    }
-    if w < 1 {
-        return false;
-    }
-    w <= 256
-}
-
 // 1 and 2 for a label room and a count room.
 pub fn check_rooms(n: usize, w: usize, labels: &[Entry], counts: &[u32]) -> Verdict
     ensures { λ r. ⌜ r ≡ roomTests n w (now (labels .entry)) (now (counts .entry)) ⌝ }
 {
-    let sizes = sizes_fit(n, w);
+    let sizes = refusal::sizes::sizes_fit(n, w);
     if !sizes {
         return refusal::refused(SIZE, 0);
     }

@@ -2,10 +2,11 @@
 // places are not looked at.
 ghost use mathlib.Core.Path.{_≡_};
 ghost use mathlib.Core.Bool.{not};
-ghost use Prim.Native.Nat.{_<_, _≤_, _*_};
+ghost use Prim.Native.Nat.{_<_};
 ghost use lib.ListN.{length};
 ghost use Rattle.basics.specs.Places.{first, some};
-ghost use Rattle.rows.specs.Rooms.{faultyEntry, soundRow, Rooms};
+ghost use Rattle.rows.specs.Rooms.{faultyEntry, soundRow, unsound, Rooms};
+use crate::cut::cut;
 use crate::entry::Entry;
 use crate::entry::joins_of;
 use crate::entry::rank_of;
@@ -49,16 +50,14 @@ pub fn sound_row(
     if w < count {
         return false;
     }
-    let start = v * w;
-    let end = start + count;
-    sound_part(bound, n, &labels[start..end])
+    sound_part(bound, n, cut(labels, w, v, count))
 }
 
 // The lowest frame whose row is not sound, or n.
 pub fn first_unsound(bound: usize, n: usize, w: usize, labels: &[Entry], counts: &[u32]) -> usize
     requires { ⌜ Rooms n w (now labels) (now counts) ⌝ }
     ensures { λ r. ⌜
-        r ≡ first (λ v. not (soundRow bound n w (now (labels .entry)) (now (counts .entry)) v)) 0 n
+        r ≡ first (unsound bound n w (now (labels .entry)) (now (counts .entry))) 0 n
         ⌝ }
 {
     let mut v: usize = 0;

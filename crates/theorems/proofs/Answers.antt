@@ -4,8 +4,8 @@ use Prim.Native.Nat.{ℕ, _+_, _*_, _≤_, _<_}
 use mathlib.Core.Path.{_≡_, refl, sym, ap, subst, _∙_}
 use mathlib.Core.List.{List}
 use native.Mathlib.Omega.{arith}
-use Rattle.theory.specs.Links.{Link, Block, hubOf}
-use Rattle.theory.specs.Chains.{Count, joins, none, Least, ThroughOf}
+use Rattle.theory.specs.Links.{Block, hubOf}
+use Rattle.theory.specs.Chains.{Count, joins, none, Least, Through}
 use Rattle.theory.specs.Distance.{far, said}
 use Rattle.theory.specs.Plain.{ones, answerBy}
 use Rattle.theory.proofs.DistVia.{chain-join}
@@ -34,7 +34,7 @@ module _ {S L : List ℕ} where
   behind x y = counted (chain-join (uncounted x) (uncounted y) refl)
 
   -- a chain through a hub is a chain
-  pub through : {h : ℕ → ℕ} {k s t m : ℕ} → ThroughOf (Link S L ones) h k s t m → Joins S L s t m
+  pub through : {h : ℕ → ℕ} {k s t m : ℕ} → Through (Joins S L) h k s t m → Joins S L s t m
   through {s} {t} c = subst (Joins S L s t) (sym (c .whole)) (behind (c .to-hub) (c .from-hub))
 
   -- a chain gone back
@@ -45,9 +45,9 @@ module _ {S L : List ℕ} where
 
 module _ {n w k : ℕ} {S L O labels counts : List ℕ} (h : Held n w k S L O labels counts) where
   -- the fewest joins of a chain of the links handed in through one of the first k hubs, none exactly if there is no such chain
-  pub answer-through : (s t : ℕ) → s < n → t < n → Least (ThroughOf (Link S L ones) (hubOf O) k s t) (askedOf n w labels counts s t)
+  pub answer-through : (s t : ℕ) → s < n → t < n → Least (Through (Joins S L) (hubOf O) k s t) (askedOf n w labels counts s t)
   answer-through s t p q =
-      subst (Least (ThroughOf (Link S L ones) (hubOf O) k s t)) (sym (held-answer h s t p q))
+      subst (Least (Through (Joins S L) (hubOf O) k s t)) (sym (held-answer h s t p q))
       (plain-fewest (h .block) (h .order) k s t (h .stop) p q)
 
   -- never below the true count
@@ -55,13 +55,18 @@ module _ {n w k : ℕ} {S L O labels counts : List ℕ} (h : Held n w k S L O la
       → Least (Joins S L s t) c → (d : ℕ) × (c ≡ joins d) × (d ≤ m)
   answer-never-below s t m p q e c l =
       least-some (Joins S L s t) c m l
-      (through (least-holds (ThroughOf (Link S L ones) (hubOf O) k s t) _ m (answer-through s t p q) e))
+      (through (least-holds (Through (Joins S L) (hubOf O) k s t) _ m (answer-through s t p q) e))
+
+  -- no more than any chain through a used hub
+  at-most : (s t m : ℕ) → s < n → t < n → Through (Joins S L) (hubOf O) k s t m
+      → (j : ℕ) × (askedOf n w labels counts s t ≡ joins j) × (j ≤ m)
+  at-most s t m p q way = least-some (Through (Joins S L) (hubOf O) k s t) _ m (answer-through s t p q) way
 
   -- at most the chain to a used hub there and back, and the chain on
   pub answer-near-first : (s t d r j : ℕ) → s < n → t < n → Joins S L s t d → r < k → Joins S L s (hubOf O r) j
       → (m : ℕ) × (askedOf n w labels counts s t ≡ joins m) × (m ≤ d + 2 * j)
   answer-near-first s t d r j p q c g to =
-      let way : ThroughOf (Link S L ones) (hubOf O) k s t (d + 2 * j) =
+      at-most s t (d + 2 * j) p q
       record {
         rank = r;
         used = g;
@@ -70,13 +75,12 @@ module _ {n w k : ℕ} {S L O labels counts : List ℕ} (h : Held n w k S L O la
         to-hub = to;
         from-hub = behind (back (h .block) p to) c;
         whole = omega arith;
-      } in
-      least-some (ThroughOf (Link S L ones) (hubOf O) k s t) _ (d + 2 * j) (answer-through s t p q) way
+      }
 
   pub answer-near-second : (s t d r j : ℕ) → s < n → t < n → Joins S L s t d → r < k → Joins S L t (hubOf O r) j
       → (m : ℕ) × (askedOf n w labels counts s t ≡ joins m) × (m ≤ d + 2 * j)
   answer-near-second s t d r j p q c g to =
-      let way : ThroughOf (Link S L ones) (hubOf O) k s t (d + 2 * j) =
+      at-most s t (d + 2 * j) p q
       record {
         rank = r;
         used = g;
@@ -85,8 +89,7 @@ module _ {n w k : ℕ} {S L O labels counts : List ℕ} (h : Held n w k S L O la
         to-hub = behind c to;
         from-hub = back (h .block) q to;
         whole = omega arith;
-      } in
-      least-some (ThroughOf (Link S L ones) (hubOf O) k s t) _ (d + 2 * j) (answer-through s t p q) way
+      }
 
   -- at k = n the true count of every pair, none for a pair without a chain
   pub answer-true : k ≡ n → (s t : ℕ) → s < n → t < n → Least (Joins S L s t) (askedOf n w labels counts s t)

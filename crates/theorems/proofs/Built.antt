@@ -8,6 +8,7 @@ use borrow.Author.Tests.{eqb-true}
 use lib.ListN.{length, getD, replicate}
 use Rattle.basics.specs.Places.{first, sum}
 use Rattle.basics.proofs.Laws.{first-before}
+use Rattle.refusal.specs.Sizes.{Sizes}
 use Rattle.refusal.specs.declared.Verdict.{Verdict}
 use Rattle.refusal.specs.declared.Verdict.the-variants.{Fine, Refused}
 use Rattle.refusal.proofs.Laws.{then-fine, test-held}
@@ -18,8 +19,8 @@ use Rattle.links.specs.Links.{startsTest, listsTest}
 use Rattle.links.specs.Order.{orderTest}
 use Rattle.rows.specs.Entry.{decode}
 use Rattle.rows.specs.Rooms.{rowAt}
-use Rattle.build.specs.Build.{labelsOf, countsOf, buildTests, stopAt, walksTest, Outcome, outcome, afterWalks, afterTests, buildOf}
-use Rattle.build.specs.Settle.{rowsIn}
+use Rattle.build.specs.Build.{labelsOf, countsOf, buildTests, stopAt, walksTest, Outcome, outcome, afterWalks, afterTests, buildOf, builtEntries}
+use Rattle.build.specs.Walk.{rowsIn}
 use Rattle.build.specs.declared.Built.{Built}
 use Rattle.build.specs.declared.Built.the-variants.{Entries, Refused as NotBuilt}
 use Rattle.build.proofs.BuildTests.{Passed}
@@ -31,8 +32,7 @@ use Rattle.theorems.proofs.Held.{Held}
 
 -- what an unrefused build means
 pub record Made (n w k : ℕ) (S L O : List ℕ) (entries : ℕ) (labels counts met queue : List ℕ) : Type 0 where
-  pub frames : (1 ≤ n) × (n ≤ 4096)
-  pub width : (1 ≤ w) × (w ≤ 256)
+  pub sizes : Sizes n w
   pub stop : k ≤ n
   pub block : Block n 1 S L ones
   pub once : orderTest n O ≡ Fine
@@ -50,10 +50,6 @@ pub record Made (n w k : ℕ) (S L O : List ℕ) (entries : ℕ) (labels counts 
 refusedBuild : Built → ℕ
 refusedBuild (Entries e) = 0
 refusedBuild (NotBuilt r) = 1
-
-entriesOf : Built → ℕ
-entriesOf (Entries e) = e
-entriesOf (NotBuilt r) = 0
 
 tests-fine : (lent : Outcome) (v : Verdict) (made : Outcome) (e : ℕ) (a b d f : List ℕ)
     → outcome (Entries e) a b d f ≡ afterTests lent v made → (v ≡ Fine) × (outcome (Entries e) a b d f ≡ made)
@@ -95,7 +91,7 @@ order-tested n w k S L O labels counts met queue e =
 pub built-tests : (n w k : ℕ) (S L O labels counts met queue : List ℕ) (entries : ℕ) (labels' counts' met' queue' : List ℕ)
     → outcome (Entries entries) labels' counts' met' queue' ≡ buildOf n w k S L O labels counts met queue
     → Made n w k S L O entries labels' counts' met' queue'
-unfolding buildOf entriesOf
+unfolding buildOf builtEntries
 built-tests n w k S L O labels counts met queue entries labels' counts' met' queue' e =
     let a = tests-fine _ _ _ entries labels' counts' met' queue' e in
     let b = walks-fine n w (rowBy n S L O k) _ entries labels' counts' met' queue' (a .1) in
@@ -103,8 +99,7 @@ built-tests n w k S L O labels counts met queue entries labels' counts' met' que
     build-tests.tests-fine n w k S L O _ _ _ _ (a .0) in
     let count-room : counts' ≡ countsOf n (rowBy n S L O k) = ap (λ (o : Outcome). o .counts) (b .1) in
     record {
-      frames = (p .sizes-fit .fit .some-frames, p .sizes-fit .fit .frames);
-      width = (p .sizes-fit .fit .some-width, p .sizes-fit .fit .width);
+      sizes = p .sizes-fit .fit;
       stop = p .sizes-fit .stop;
       block = p .block;
       once = order-tested n w k S L O _ _ _ _ (a .0);
@@ -112,7 +107,7 @@ built-tests n w k S L O labels counts met queue entries labels' counts' met' que
       narrow = narrow-rows n w k S L O (b .0);
       label-room = ap (λ (o : Outcome). o .labels) (b .1);
       count-room = count-room;
-      total = ap (λ (o : Outcome). entriesOf (o .answer)) (b .1) ∙ sym (ap sum count-room);
+      total = ap (λ (o : Outcome). o .entries) (b .1) ∙ sym (ap sum count-room);
       met-room = ap (λ (o : Outcome). o .met) (b .1);
       queue-room = ap (λ (o : Outcome). o .queue) (b .1);
     }
@@ -130,8 +125,8 @@ module _ {n w k : ℕ} {S L O : List ℕ} {entries : ℕ} {labels counts met que
       (record {
         block = m .block;
         order = m .order;
-        frames = m .frames .1;
-        wide = m .width .0;
+        frames = m .sizes .frames;
+        wide = m .sizes .some-width;
         below = m .stop;
         fit = m .narrow;
       })
@@ -145,10 +140,7 @@ module _ {n w k : ℕ} {S L O : List ℕ} {entries : ℕ} {labels counts met que
         order = m .order;
         stop = m .stop;
         rooms = record {
-          some-frames = m .frames .0;
-          frames = m .frames .1;
-          some-width = m .width .0;
-          width = m .width .1;
+          sizes = m .sizes;
           places = ap (λ (l : List ℕ). length l) (m .label-room) ∙ length-labels n w (rowBy n S L O k);
           each = ap (λ (l : List ℕ). length l) (m .count-room) ∙ length-counts n (rowBy n S L O k);
         };

@@ -8,9 +8,8 @@ use borrow.Fn.Kinds.{Dens, endedOf}
 use denote.Ref.{now}
 use denote.Triple.Clauses.{AtExit}
 use lib.ListN.{length, take, drop}
-use Rattle.theory.specs.Links.{Link, hubOf}
-use Rattle.theory.specs.Chains.{Least, ThroughOf}
-use Rattle.theory.specs.Plain.{ones}
+use Rattle.theory.specs.Links.{hubOf}
+use Rattle.theory.specs.Chains.{Least, Through}
 use Rattle.rows.specs.Pair.{pairOf, told, countOf}
 use Rattle.rows.specs.declared.pair.Answer.{Answer}
 use Rattle.rows.proofs.pair.pair.Kinds as pair-kinds
@@ -30,7 +29,7 @@ use Rattle.file.proofs.write.Kinds as write-kinds
 use Rattle.file.proofs.write.Reads as write-reads
 use Rattle.file.proofs.read.Kinds as read-kinds
 use Rattle.file.proofs.read.Reads as read-reads
-use Rattle.theorems.specs.Demands.{Demands}
+use Rattle.theorems.specs.Demands.{Joins, Demands}
 use Rattle.theorems.specs.EndToEnd.{EndToEnd, fileSize}
 use Rattle.theorems.proofs.Demand.{built-demands}
 use Rattle.theorems.proofs.EndToEnd.{end-to-end}
@@ -154,10 +153,10 @@ calls-end-to-end built enough wrote p q r back =
 -- and whichever of these rooms is then asked, what the pair question hands back is demand 3's answer, with number 0
 pub calls-asked : {n w k : ℕ} {S L O labels counts : List ℕ} {s t : ℕ} {r : Answer} → Demands n w k S L O labels counts
     → PairCall n w labels counts s t r → s < n → t < n
-    → (told r .number ≡ 0) × Least (ThroughOf (Link S L ones) (hubOf O) k s t) (countOf r)
+    → (told r .number ≡ 0) × Least (Through (Joins S L) (hubOf O) k s t) (countOf r)
 calls-asked {k} {S} {L} {O} {s} {t} d c p q = (
   ap (λ (x : Answer). told x .number) (pair-out c) ∙ d .taken s t p q,
-  subst (Least (ThroughOf (Link S L ones) (hubOf O) k s t)) (sym (ap countOf (pair-out c))) (d .fewest s t p q),
+  subst (Least (Through (Joins S L) (hubOf O) k s t)) (sym (ap countOf (pair-out c))) (d .fewest s t p q),
 )
 
 -- any index written, and read back with the same W into rooms of the right lengths, is the same index

@@ -14,5 +14,6 @@ pub mod SameLinks
 pub mod SameListing
 pub mod SameRefusal
 pub mod SameRows
+pub mod Sample
 pub mod Starred
 pub mod Trips

@@ -57,10 +57,7 @@ module _ {n w k : ℕ} {S L O labels counts : List ℕ} (h : Held n w k S L O la
   rooms' : Rooms n w labels' counts'
   rooms' =
       record {
-        some-frames = h .rooms .some-frames;
-        frames = h .rooms .frames;
-        some-width = h .rooms .some-width;
-        width = h .rooms .width;
+        sizes = h .rooms .sizes;
         places = long-labels;
         each = long-counts;
       }

@@ -20,8 +20,6 @@ use Rattle.rows.proofs.lookup.row.Kinds as row-kinds
 use Rattle.rows.proofs.lookup.row.Reads as row-reads
 use Rattle.rows.proofs.spread.spread.Kinds as spread-kinds
 use Rattle.rows.proofs.spread.spread.Reads as spread-reads
-use Rattle.rows.proofs.rooms.sizes_fit.Kinds as sizes-fit-kinds
-use Rattle.rows.proofs.rooms.sizes_fit.Reads as sizes-fit-reads
 use Rattle.rows.proofs.rooms.check_rooms.Kinds as check-rooms-kinds
 use Rattle.rows.proofs.rooms.check_rooms.Reads as check-rooms-reads
 use Rattle.rows.proofs.rooms.total.Kinds as total-kinds
@@ -40,9 +38,6 @@ entry-of-same κs a r₁ r₂ s₁ s₂ p q = p ∙ sym q
 pub row-part-same : Same 1 row-part-kinds.ps row-part-kinds.r row-part-reads.Post
     (λ κs r₁ r₂ s₁ s₂. (now r₁ ≡ now r₂) × (ptr r₁ ≡ ptr r₂))
 row-part-same κs a r₁ r₂ s₁ s₂ p q = (p .0 ∙ sym (q .0), p .1 ∙ sym (q .1))
-
-pub sizes-fit-same : SameAnswer 0 sizes-fit-kinds.ps sizes-fit-kinds.r sizes-fit-reads.Post
-sizes-fit-same κs a r₁ r₂ s₁ s₂ p q = p ∙ sym q
 
 pub check-rooms-same : SameAnswer 2 check-rooms-kinds.ps check-rooms-kinds.r check-rooms-reads.Post
 check-rooms-same κs a r₁ r₂ s₁ s₂ p q = p ∙ sym q

@@ -10,7 +10,7 @@ use lib.ListN.{length, getD, set}
 use lib.Dec.{leb, ltb}
 use Rattle.basics.specs.Places.{table}
 use Rattle.theory.specs.Links.{Link, hubOf}
-use Rattle.theory.specs.Chains.{Count, joins, Least, ChainOf, ThroughOf}
+use Rattle.theory.specs.Chains.{Count, joins, Least, ChainOf, Through}
 use Rattle.theory.specs.Distance.{far}
 use Rattle.theory.specs.Rows.{In}
 use Rattle.theory.specs.Walk.{walks}
@@ -58,7 +58,7 @@ pub record Demands (n w k : ℕ) (S L O labels counts : List ℕ) : Type 0 where
   -- any two frames, equal ones included, may be asked: success is 0
   pub taken : (s t : ℕ) → s < n → t < n → told (pairOf n w labels counts s t) .number ≡ 0
   -- demand 3: the answer is the fewest joins of a chain through one of those k hubs, none exactly if there is no such chain
-  pub fewest : (s t : ℕ) → s < n → t < n → Least (ThroughOf (Link S L ones) (hubOf O) k s t) (askedOf n w labels counts s t)
+  pub fewest : (s t : ℕ) → s < n → t < n → Least (Through (Joins S L) (hubOf O) k s t) (askedOf n w labels counts s t)
   -- it is never below the true count
   pub never-below : (s t m : ℕ) → s < n → t < n → askedOf n w labels counts s t ≡ joins m → (c : Count) → Least (Joins S L s t) c
       → (d : ℕ) × (c ≡ joins d) × (d ≤ m)

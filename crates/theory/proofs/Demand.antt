@@ -21,13 +21,13 @@ pub record Shortest (K : ℕ → ℕ → ℕ → Type 0) (B n : ℕ) (d : ℕ �
 module _ {B n : ℕ} {d : ℕ → ℕ → ℕ} (h : ℕ → ℕ) (𝓜 : Metric B n d) (inside : (r : ℕ) → r < n → h r < n) where
   -- the least sum of a chain through one of the first k hubs, none exactly if there is none
   pub fewest : {K : ℕ → ℕ → ℕ → Type 0} → Shortest K B n d → (k s t : ℕ) → k ≤ n → s < n → t < n
-      → Least (Through K h k s t) (said B (answer B n (ruleRow B d h k s) (ruleRow B d h k t)))
+      → Least (Through (Chain K) h k s t) (said B (answer B n (ruleRow B d h k s) (ruleRow B d h k t)))
   fewest {K} 𝓢 k s t l p q =
       let same : answer B n (ruleRow B d h k s) (ruleRow B d h k t) ≡ hubs B d h k s t = answer-hubs h 𝓜 inside k s t l p q in
-      subst (λ (z : ℕ). Least (Through K h k s t) (said B z)) (sym same)
-      (said-least (Through K h k s t) B (hubs B d h k s t) has low reach)
+      subst (λ (z : ℕ). Least (Through (Chain K) h k s t) (said B z)) (sym same)
+      (said-least (Through (Chain K) h k s t) B (hubs B d h k s t) has low reach)
     where
-      has : hubs B d h k s t < B → Through K h k s t (hubs B d h k s t)
+      has : hubs B d h k s t < B → Through (Chain K) h k s t (hubs B d h k s t)
       has g =
           let (r, i, e) = hubs-found B d h k s t g in
           let f : h r < n = inside r (omega arith) in
@@ -41,7 +41,7 @@ module _ {B n : ℕ} {d : ℕ → ℕ → ℕ} (h : ℕ → ℕ) (𝓜 : Metric 
             whole = sym e;
           }
 
-      low : (m : ℕ) → Through K h k s t m → hubs B d h k s t ≤ m
+      low : (m : ℕ) → Through (Chain K) h k s t m → hubs B d h k s t ≤ m
       low m c =
           let r : ℕ = c .rank in
           let f : h r < n = inside r (omega (arith, c .used)) in
@@ -53,7 +53,7 @@ module _ {B n : ℕ} {d : ℕ → ℕ → ℕ} (h : ℕ → ℕ) (𝓜 : Metric 
             c .whole,
           )
 
-      reach : (m : ℕ) → Through K h k s t m → hubs B d h k s t < B
+      reach : (m : ℕ) → Through (Chain K) h k s t m → hubs B d h k s t < B
       reach m c =
           let r : ℕ = c .rank in
           let f : h r < n = inside r (omega (arith, c .used)) in
@@ -67,31 +67,24 @@ module _ {B n : ℕ} {d : ℕ → ℕ → ℕ} (h : ℕ → ℕ) (𝓜 : Metric 
   pub never-below : (k s t : ℕ) → k ≤ n → s < n → t < n → d s t ≤ answer B n (ruleRow B d h k s) (ruleRow B d h k t)
   never-below k s t l p q = omega (arith, answer-hubs h 𝓜 inside k s t l p q, never-less h 𝓜 inside k s t l p q)
 
+  -- at most the way over a used hub
+  by-hub : (k s t r : ℕ) → k ≤ n → s < n → t < n → r < k
+      → answer B n (ruleRow B d h k s) (ruleRow B d h k t) ≤ d s (h r) + d (h r) t
+  by-hub k s t r l p q g = omega (arith, answer-hubs h 𝓜 inside k s t l p q, hubs-le B d h k s t r g)
+
   -- over the distance by at most twice the way from the first frame to a used hub
   pub near-first : (k s t r : ℕ) → k ≤ n → s < n → t < n → r < k
       → answer B n (ruleRow B d h k s) (ruleRow B d h k t) ≤ d s t + 2 * d s (h r)
   near-first k s t r l p q g =
       let f : h r < n = inside r (omega arith) in
-      omega (
-        arith,
-        answer-hubs h 𝓜 inside k s t l p q,
-        hubs-le B d h k s t r g,
-        𝓜 .via (h r) s t f p q,
-        𝓜 .swap (h r) s f p,
-      )
+      omega (arith, by-hub k s t r l p q g, 𝓜 .via (h r) s t f p q, 𝓜 .swap (h r) s f p)
 
   -- and from the second frame
   pub near-second : (k s t r : ℕ) → k ≤ n → s < n → t < n → r < k
       → answer B n (ruleRow B d h k s) (ruleRow B d h k t) ≤ d s t + 2 * d t (h r)
   near-second k s t r l p q g =
       let f : h r < n = inside r (omega arith) in
-      omega (
-        arith,
-        answer-hubs h 𝓜 inside k s t l p q,
-        hubs-le B d h k s t r g,
-        𝓜 .via s t (h r) p q f,
-        𝓜 .swap (h r) t f q,
-      )
+      omega (arith, by-hub k s t r l p q g, 𝓜 .via s t (h r) p q f, 𝓜 .swap (h r) t f q)
 
   -- so to the nearest of the used hubs, from either frame
   pub near : (k s t : ℕ) → k ≤ n → s < n → t < n
@@ -114,13 +107,7 @@ module _ {B n : ℕ} {d : ℕ → ℕ → ℕ} (h : ℕ → ℕ) (𝓜 : Metric 
   pub hub-count : (k r t : ℕ) → k ≤ n → r < k → t < n → answer B n (ruleRow B d h k (h r)) (ruleRow B d h k t) ≡ d (h r) t
   hub-count k r t l g q =
       let f : h r < n = inside r (omega arith) in
-      omega (
-        arith,
-        answer-hubs h 𝓜 inside k (h r) t l f q,
-        hubs-le B d h k (h r) t r g,
-        𝓜 .self (h r) f,
-        never-less h 𝓜 inside k (h r) t l f q,
-      )
+      omega (arith, by-hub k (h r) t r l f q g, 𝓜 .self (h r) f, never-below k (h r) t l f q)
 
   -- with every frame a hub, every pair does
   pub true-count : ((v : ℕ) → v < n → (r : ℕ) × (r < n) × (h r ≡ v)) → (s t : ℕ) → s < n → t < n

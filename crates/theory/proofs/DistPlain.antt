@@ -9,7 +9,7 @@ use lib.ListN.{length}
 use Rattle.basics.specs.Places.{some, least}
 use Rattle.basics.proofs.Laws.{bcase, cond-true, cond-false, some-found, some-not, some-one, least-most, least-le, least-ge}
 use Rattle.theory.specs.Links.{Link, Block, holdsAt}
-use Rattle.theory.specs.Chains.{Chain, stay, step, Least, linkCount, ChainOf}
+use Rattle.theory.specs.Chains.{Chain, stay, step, Least, linkCount, ChainOf, Through}
 use Rattle.theory.specs.Distance.{far, weight, dist, said}
 use Rattle.theory.specs.Plain.{ones, joined, joinsTo}
 use Rattle.theory.proofs.DistLeast.{least-same}
@@ -67,6 +67,20 @@ counted {m} c = record { sum = m; chain = c; long = sym (chain-links c) }
 
 pub uncounted : {S L : List ℕ} {a b m : ℕ} → ChainOf (Link S L ones) a b m → Chain (Link S L ones) a b m
 uncounted c = chain-sum (sym (chain-links (c .chain) ∙ c .long)) (c .chain)
+
+-- through a hub by chains counted otherwise
+pub other-chains : {C D : ℕ → ℕ → ℕ → Type 0} {h : ℕ → ℕ} {k s t m : ℕ} → ((a b j : ℕ) → C a b j → D a b j)
+    → Through C h k s t m → Through D h k s t m
+other-chains {h} {s} {t} f c =
+    record {
+      rank = c .rank;
+      used = c .used;
+      there = c .there;
+      on = c .on;
+      to-hub = f s (h (c .rank)) (c .there) (c .to-hub);
+      from-hub = f (h (c .rank)) t (c .on) (c .from-hub);
+      whole = c .whole;
+    }
 
 module _ {n : ℕ} {S L : List ℕ} (block : Block n 1 S L ones) where
   -- d(a,b) is the fewest links of a chain from a to b, and none exactly if there is no chain

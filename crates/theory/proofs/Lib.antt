@@ -4,7 +4,6 @@ pub mod DistLeast
 pub mod DistWeight
 pub mod Distance
 pub mod DistPlain
-pub mod Sample
 pub mod Rule
 pub mod Walk
 pub mod Levels

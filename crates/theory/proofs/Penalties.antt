@@ -7,7 +7,7 @@ use mathlib.Core.List.{List, _∷_, _++_}
 use native.Mathlib.Omega.{arith}
 use Rattle.basics.specs.Places.{least}
 use Rattle.theory.specs.Links.{Link, Block, Order, hubOf}
-use Rattle.theory.specs.Chains.{Through, Least}
+use Rattle.theory.specs.Chains.{Chain, Through, Least}
 use Rattle.theory.specs.Distance.{far, weight, dist, said}
 use Rattle.theory.specs.Rows.{Row, In, Rule, answer, keep, ruleRow, instead}
 use Rattle.theory.specs.Walk.{Met}
@@ -52,7 +52,7 @@ module _ {n M : ℕ} {S L : List ℕ} {P : ℕ → ℕ} (block : Block n M S L P
   module _ {O : List ℕ} (order : Order n O) where
     -- the least sum of a chain through one of the first k hubs, none exactly if there is no such chain
     pub sums-fewest : (k s t : ℕ) → k ≤ n → s < n → t < n
-        → Least (Through (Link S L P) (hubOf O) k s t) (said (far M n) (sumAnswer M n S L P O k s t))
+        → Least (Through (Chain (Link S L P)) (hubOf O) k s t) (said (far M n) (sumAnswer M n S L P O k s t))
     sums-fewest = fewest (hubOf O) (dist-metric block) (order .inside) dist-shortest
 
     -- never below the true sum

@@ -8,15 +8,15 @@ use native.Mathlib.Omega.{arith}
 use lib.ListN.{length}
 use Rattle.basics.specs.Places.{least}
 use Rattle.theory.specs.Links.{Link, Block, Order, hubOf}
-use Rattle.theory.specs.Chains.{Least, ChainOf, ThroughOf}
+use Rattle.theory.specs.Chains.{Least, ChainOf, Through}
 use Rattle.theory.specs.Distance.{far, said}
-use Rattle.theory.specs.Rows.{Row, In, Shared, Rule, Metric, answer, hubs, keep, ruleRow, instead}
+use Rattle.theory.specs.Rows.{Row, In, Shared, Rule, Metric, answer, keep, ruleRow, instead}
 use Rattle.theory.specs.Walk.{Met, walkRow, walks}
 use Rattle.theory.specs.Plain.{ones, joined, joinsTo, rowBy, answerBy}
 use Rattle.theory.proofs.DistLeast.{least-same}
-use Rattle.theory.proofs.DistPlain.{plain-weight, counted, uncounted, joins-is}
+use Rattle.theory.proofs.DistPlain.{plain-weight, counted, uncounted, other-chains, joins-is}
 use Rattle.theory.proofs.Distance.{dist-metric}
-use Rattle.theory.proofs.Rule.{Rising, rankAt, joinsAt, place-in, row-rising, keep-append}
+use Rattle.theory.proofs.Rule.{Rising, rankAt, joinsAt, place-in, row-rising}
 use Rattle.theory.proofs.Answer.{literal, answer-hubs}
 use Rattle.theory.proofs.Levels.{oneEach}
 use Rattle.theory.proofs.WalkRule.{Steps, met-rule, walk-rule, walks-rule}
@@ -32,17 +32,6 @@ plain-rising n S L O k v = row-rising (far 1 n) (joinsTo n S L) (hubOf O) k v
 pub row-none : (n : ℕ) (S L O : List ℕ) (v : ℕ) → rowBy n S L O zero v ≡ []
 unfolding rowBy ruleRow
 row-none n S L O v = refl
-
--- what the row of v gains at rank r
-abbrev pub gained : ℕ → List ℕ → List ℕ → List ℕ → ℕ → ℕ → Row
-gained n S L O r v =
-    keep r (joinsTo n S L (hubOf O r) v) (hubs (far 1 n) (joinsTo n S L) (hubOf O) r (hubOf O r) v) []
-
--- a row only grows
-pub row-grows : (n : ℕ) (S L O : List ℕ) (r v : ℕ) → rowBy n S L O (suc r) v ≡ rowBy n S L O r v ++ gained n S L O r v
-unfolding rowBy ruleRow
-row-grows n S L O r v =
-    keep-append r (joinsTo n S L (hubOf O r) v) (hubs (far 1 n) (joinsTo n S L) (hubOf O) r (hubOf O r) v) (rowBy n S L O r v)
 
 -- there are fewer frames than infinity
 pub far-room : (n : ℕ) → n < far 1 n
@@ -81,30 +70,12 @@ module _ {n : ℕ} {S L : List ℕ} (block : Block n 1 S L ones) where
 
     -- the answer is the fewest joins of a chain through one of the first k hubs, none exactly if there is no such chain
     pub plain-fewest : (k s t : ℕ) → k ≤ n → s < n → t < n
-        → Least (ThroughOf (Link S L ones) (hubOf O) k s t) (said (far 1 n) (answerBy n S L O k s t))
+        → Least (Through (ChainOf (Link S L ones)) (hubOf O) k s t) (said (far 1 n) (answerBy n S L O k s t))
     unfolding rowBy joinsTo
     plain-fewest k s t l p q =
         least-same (said (far 1 n) (sumAnswer 1 n S L ones O k s t))
-        (λ j c.
-        record {
-          rank = c .rank;
-          used = c .used;
-          there = c .there;
-          on = c .on;
-          to-hub = counted (c .to-hub);
-          from-hub = counted (c .from-hub);
-          whole = c .whole;
-        })
-        (λ j c.
-        record {
-          rank = c .rank;
-          used = c .used;
-          there = c .there;
-          on = c .on;
-          to-hub = uncounted (c .to-hub);
-          from-hub = uncounted (c .from-hub);
-          whole = c .whole;
-        })
+        (λ j. other-chains (λ a b i. counted))
+        (λ j. other-chains (λ a b i. uncounted))
         (sums-fewest block order k s t l p q)
 
     -- never below the true count

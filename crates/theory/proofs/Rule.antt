@@ -4,7 +4,7 @@
 use Prim.Native.Nat.{ℕ, zero, suc, _+_, _≤_, _<_}
 use mathlib.Core.Path.{_≡_, refl, sym, ap, subst, _∙_}
 use mathlib.Core.Logic.{_↔_}
-use mathlib.Core.List.{[], _∷_, _++_, append-nil, List·Memᴰ·head, List·Memᴰ·tail, List·Memᴰ·cases-cons, List·Memᴰ·append-cases, List·Memᴰ·eq-of-singleton, List·Memᴰ·not-nil, Memᴰ·append-left, Memᴰ·append-right}
+use mathlib.Core.List.{[], _∷_, _++_, List·Memᴰ·head, List·Memᴰ·tail, List·Memᴰ·cases-cons, List·Memᴰ·append-cases, List·Memᴰ·eq-of-singleton, List·Memᴰ·not-nil, Memᴰ·append-left, Memᴰ·append-right}
 use native.Mathlib.Decide.{ℕ-discrete}
 use native.Mathlib.Omega.{arith}
 use lib.ListN.{length, getD, length-append, List·getD-append}
@@ -22,12 +22,6 @@ keep-not r m p x h = cond-false (x ++ ((r, m) ∷ [])) x (le-ltb m p h)
 pub keep-yes : (r m p : ℕ) (x : Row) → m < p → keep r m p x ≡ x ++ ((r, m) ∷ [])
 unfolding keep
 keep-yes r m p x h = cond-true (x ++ ((r, m) ∷ [])) x (lt-ltb m p h)
-
-pub keep-append : (r m p : ℕ) (x : Row) → keep r m p x ≡ x ++ keep r m p []
-keep-append r m p x =
-    lt-or-ge m p
-    (λ h. keep-yes r m p x h ∙ ap (λ (y : Row). x ++ y) (sym (keep-yes r m p [] h)))
-    (λ h. keep-not r m p x h ∙ sym (append-nil x) ∙ ap (λ (y : Row). x ++ y) (sym (keep-not r m p [] h)))
 
 -- what a row has after a hub: the new entry, where it was kept, or an old one
 pub keep-cases {ℓ} : {C : Type ℓ} (r m p : ℕ) (x : Row) {q j : ℕ} → In q j (keep r m p x) → (In q j x → C)

@@ -7,14 +7,15 @@ pub data Chain (K : ℕ → ℕ → ℕ → Type 0) (a : ℕ) : ℕ → ℕ → 
   stay : Chain K a a 0
   step : {b c m w k : ℕ} → Chain K a b m → K b c w → k ≡ m + w → Chain K a c k
 
--- a chain from s to t of sum m through one of the first k hubs; h gives the hub of a rank
-pub record Through (K : ℕ → ℕ → ℕ → Type 0) (h : ℕ → ℕ) (k s t m : ℕ) : Type 0 where
+-- from s to t with m in all, through one of the first k hubs: C a b m is a chain from a to b of sum, or of number of links,
+-- m; h gives the hub of a rank
+pub record Through (C : ℕ → ℕ → ℕ → Type 0) (h : ℕ → ℕ) (k s t m : ℕ) : Type 0 where
   pub rank : ℕ
   pub used : rank < k
   pub there : ℕ
   pub on : ℕ
-  pub to-hub : Chain K s (h rank) there
-  pub from-hub : Chain K (h rank) t on
+  pub to-hub : C s (h rank) there
+  pub from-hub : C (h rank) t on
   pub whole : m ≡ there + on
 
 -- what a question gives back: a number of joins, or none
@@ -37,13 +38,3 @@ pub record ChainOf (K : ℕ → ℕ → ℕ → Type 0) (a b links : ℕ) : Type
   pub sum : ℕ
   pub chain : Chain K a b sum
   pub long : linkCount chain ≡ links
-
--- a chain from s to t of that many links, through one of the first k hubs
-pub record ThroughOf (K : ℕ → ℕ → ℕ → Type 0) (h : ℕ → ℕ) (k s t links : ℕ) : Type 0 where
-  pub rank : ℕ
-  pub used : rank < k
-  pub there : ℕ
-  pub on : ℕ
-  pub to-hub : ChainOf K s (h rank) there
-  pub from-hub : ChainOf K (h rank) t on
-  pub whole : links ≡ there + on

@@ -1,5 +1,4 @@
 -- Each arm gives what the definition gives for that answer.
-use mathlib.Core.Path.{sym, ap}
 use borrow.Author.Needs.{needs}
 use Rattle.file.specs.Reader.{told}
 use Rattle.capi.specs.Outs.{headerOuts}
@@ -14,11 +13,11 @@ enum-known-answer-2 c = search needs
 
 returns : tie.Need-returns
 unfolding headerOuts told
-returns c = sym (ap headerOuts (c .before .answer .given .1))
+returns c = rw (c .before .answer .given .1)
 
 returns-2 : tie.Need-returns-2
 unfolding headerOuts told
-returns-2 c = sym (ap headerOuts (c .before .answer2 .given .1))
+returns-2 c = rw (c .before .answer2 .given .1)
 
 pub opened-spec : {M : Type 1} → statement M
 opened-spec = tie.close (tie.spec enum-known-answer enum-known-answer-2 returns returns-2)

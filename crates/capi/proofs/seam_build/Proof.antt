@@ -1,19 +1,10 @@
 -- Each arm gives what the definition gives for that answer, and the build promises the answer with the rooms.
-use Prim.Native.Nat.{ℕ}
-use mathlib.Core.Path.{_≡_, sym, ap, _∙_}
-use mathlib.Core.List.{List}
+use mathlib.Core.Path.{ap}
 use borrow.Author.Needs.{needs}
-use Rattle.build.specs.Build.{builtNumber, builtPlace, builtEntries, Outcome, outcome}
-use Rattle.build.specs.declared.Built.{Built}
+use Rattle.build.specs.Build.{builtNumber, builtPlace, builtEntries}
 use Rattle.capi.specs.Outs.{buildOuts}
 use Rattle.capi.proofs.seam_build.Statement.{statement}
 use Rattle.capi.proofs.seam_build.Tie as tie
-
--- the arm that found the answer to be `found`
-arm : {answer found : Built} {labels counts met queue : List ℕ} {o : Outcome} → outcome answer labels counts met queue ≡ o
-    → answer ≡ found → buildOuts (outcome found labels counts met queue) ≡ buildOuts o
-arm {labels} {counts} {met} {queue} promised e =
-    ap buildOuts (sym (ap (λ (a : Built). outcome a labels counts met queue) e) ∙ promised)
 
 build-requires : tie.Need-build-requires
 build-requires c κs = search needs
@@ -39,7 +30,7 @@ same-length-4 c = search needs
 returns : tie.Need-returns
 unfolding buildOuts builtNumber builtPlace builtEntries
 returns c =
-    arm (c .before .before .before .before .before .before .before .before .before .before .before .build .ensures) (c .before .total .given .1)
+    ap buildOuts (rw (c .before .total .given .1) at (c .before .before .before .before .before .before .before .before .before .before .before .build .ensures))
 
 same-length-5 : tie.Need-same-length-5
 same-length-5 c = search needs
@@ -56,7 +47,7 @@ same-length-8 c = search needs
 returns-2 : tie.Need-returns-2
 unfolding buildOuts builtNumber builtPlace builtEntries
 returns-2 c =
-    arm (c .before .before .before .before .before .before .before .before .before .before .before .build .ensures) (c .before .r .given .1)
+    ap buildOuts (rw (c .before .r .given .1) at (c .before .before .before .before .before .before .before .before .before .before .before .build .ensures))
 
 pub seam-build-spec : {M : Type 1} → statement M
 seam-build-spec =

@@ -1,8 +1,7 @@
 -- Each arm gives what the definition gives for that answer.
-use mathlib.Core.Path.{sym, ap, _∙_}
+use mathlib.Core.Path.{ap}
 use borrow.Author.Needs.{needs}
 use Rattle.rows.specs.Pair.{told}
-use Rattle.rows.specs.declared.pair.Answer.{Answer}
 use Rattle.capi.specs.Outs.{pairOuts}
 use Rattle.capi.proofs.seam_pair.Statement.{statement}
 use Rattle.capi.proofs.seam_pair.Tie as tie
@@ -21,20 +20,15 @@ enum-known-r c = search needs
 
 returns : tie.Need-returns
 unfolding pairOuts told
-returns c =
-    sym (ap (λ (a : Answer). pairOuts (told a)) (c .before .sum .given .1))
-    ∙ ap pairOuts (c .before .before .before .pair .ensures .1)
+returns c = ap pairOuts (rw (c .before .sum .given .1) at (c .before .before .before .pair .ensures .1))
 
 returns-2 : tie.Need-returns-2
 unfolding pairOuts told
-returns-2 c =
-    sym (ap (λ (a : Answer). pairOuts (told a)) (c .enum-told .given .1)) ∙ ap pairOuts (c .before .before .pair .ensures .1)
+returns-2 c = ap pairOuts (rw (c .enum-told .given .1) at (c .before .before .pair .ensures .1))
 
 returns-3 : tie.Need-returns-3
 unfolding pairOuts told
-returns-3 c =
-    sym (ap (λ (a : Answer). pairOuts (told a)) (c .before .r .given .1))
-    ∙ ap pairOuts (c .before .before .before .pair .ensures .1)
+returns-3 c = ap pairOuts (rw (c .before .r .given .1) at (c .before .before .before .pair .ensures .1))
 
 pub seam-pair-spec : {M : Type 1} → statement M
 seam-pair-spec = tie.close (tie.spec pair-requires enum-known-sum enum-told enum-known-r returns returns-2 returns-3)

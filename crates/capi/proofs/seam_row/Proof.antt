@@ -1,6 +1,6 @@
 -- Behind a fine check the row lies in the room, so its start is a place of the room and its length is its count; a refusal
 -- gives the empty part at the room's front.
-use Prim.Native.Nat.{ℕ, _*_, _≤_, _<_}
+use Prim.Native.Nat.{ℕ, _*_}
 use mathlib.Core.Path.{_≡_, sym, ap, _∙_}
 use mathlib.Core.List.{List, [], _∷_}
 use native.Mathlib.Omega.{arith}
@@ -13,9 +13,7 @@ use Rattle.refusal.specs.declared.Verdict.{Verdict}
 use Rattle.refusal.specs.declared.Verdict.the-variants.{Fine, Refused}
 use Rattle.rows.specs.Rooms.{rowAt, checkRow}
 use Rattle.rows.specs.Lookup.{ifFine, rowOf, rowStart}
-use Rattle.rows.proofs.Laws.{row-inside, row-sound}
-use Rattle.rows.proofs.RoomLaws.{length-row}
-use Rattle.rows.proofs.PairLaws.{row-checked}
+use Rattle.rows.proofs.PairLaws.{checked-row}
 use Rattle.capi.specs.Outs.{Outs, outs, rowOuts}
 use Rattle.capi.proofs.seam_row.Statement.{statement}
 use Rattle.capi.proofs.seam_row.Tie as tie
@@ -26,27 +24,11 @@ rowBy w labels counts v verdict =
     outs (numberOf verdict) (placeOf verdict)
     (ifFine verdict (v * w) 0 ∷ (length (ifFine verdict (rowAt w labels counts v) []) ∷ [])) []
 
--- what a fine check says of the row
-pub record Lies (n w : ℕ) (labels counts : List ℕ) (v : ℕ) : Type 0 where
-  pub counted : v < length counts
-  pub below : v * w ≤ length labels
-  pub long : length (rowAt w labels counts v) ≡ getD counts v 0
-
-lies : (n w : ℕ) (labels counts : List ℕ) (v : ℕ) → checkRow n w labels counts v ≡ Fine → Lies n w labels counts v
-lies n w labels counts v e =
-    let (r, h, s) = row-checked n w labels counts v e in
-    let k : getD counts v 0 ≤ w = row-sound n n w labels counts v s .0 in
-    record {
-      counted = omega (arith, r .each);
-      below = omega (arith, r .places, row-inside {v = v} {n = n} {c = getD counts v 0} {w = w} h k);
-      long = length-row r v h k;
-    }
-
 of-fine : (n w : ℕ) (labels counts : List ℕ) (v : ℕ) → checkRow n w labels counts v ≡ Fine
     → outs 0 0 (v * w ∷ (getD counts v 0 ∷ [])) [] ≡ rowOuts n w labels counts v
 unfolding rowOuts rowOf rowStart rowBy ifFine numberOf placeOf
 of-fine n w labels counts v e =
-    ap (λ (count : ℕ). outs 0 0 (v * w ∷ (count ∷ [])) []) (sym (lies n w labels counts v e .long))
+    ap (λ (count : ℕ). outs 0 0 (v * w ∷ (count ∷ [])) []) (sym (checked-row n w labels counts v e .1))
     ∙ sym (ap (rowBy w labels counts v) e)
 
 of-refused : (n w : ℕ) (labels counts : List ℕ) (v : ℕ) {r : Refusal} → checkRow n w labels counts v ≡ Refused r
@@ -67,13 +49,13 @@ enum-told : tie.Need-enum-told
 enum-told c = search needs
 
 mul-start : tie.Need-mul-start
-mul-start c = record { fits = omega (arith, lies _ _ _ _ _ (fine c) .below) }
+mul-start c = record { fits = omega (arith, checked-row _ _ _ _ _ (fine c) .0 .row .lies) }
 
 mul-count : tie.Need-mul-count
-mul-count c = record { fits = omega (arith, lies _ _ _ _ _ (fine c) .counted) }
+mul-count c = record { fits = omega (arith, checked-row _ _ _ _ _ (fine c) .0 .row .counted) }
 
 shared-slice-read-count : tie.Need-shared-slice-read-count
-shared-slice-read-count c = lies _ _ _ _ _ (fine (c .before)) .counted
+shared-slice-read-count c = checked-row _ _ _ _ _ (fine (c .before)) .0 .row .counted
 
 cast-count : tie.Need-cast-count
 cast-count c = omega (arith, c .shared-slice-known3 .given (c .before .before .before .before .before .before .args .v))

@@ -1,8 +1,7 @@
 -- Each arm gives the numbers of that answer, and the spread question promises the answer.
-use mathlib.Core.Path.{sym, ap, _∙_}
+use mathlib.Core.Path.{ap}
 use borrow.Author.Needs.{needs}
 use Rattle.rows.specs.Spread.{spreadTold}
-use Rattle.rows.specs.declared.spread.SpreadAnswer.{SpreadAnswer}
 use Rattle.capi.specs.Outs.{spreadOuts}
 use Rattle.capi.proofs.seam_spread.Statement.{statement}
 use Rattle.capi.proofs.seam_spread.Tie as tie
@@ -18,13 +17,11 @@ enum-known-r c = search needs
 
 returns : tie.Need-returns
 unfolding spreadOuts spreadTold
-returns c =
-    ap (λ (a : SpreadAnswer). spreadOuts (spreadTold a)) (sym (c .before .joins .given .1) ∙ c .before .before .before .spread .ensures .0)
+returns c = ap spreadOuts (rw (c .before .joins .given .1) at (c .before .before .before .spread .ensures .1))
 
 returns-2 : tie.Need-returns-2
 unfolding spreadOuts spreadTold
-returns-2 c =
-    ap (λ (a : SpreadAnswer). spreadOuts (spreadTold a)) (sym (c .before .r .given .1) ∙ c .before .before .before .spread .ensures .0)
+returns-2 c = ap spreadOuts (rw (c .before .r .given .1) at (c .before .before .before .spread .ensures .1))
 
 pub seam-spread-spec : {M : Type 1} → statement M
 seam-spread-spec = tie.close (tie.spec spread-requires enum-known-joins enum-known-r returns returns-2)

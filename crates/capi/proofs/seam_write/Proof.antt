@@ -1,18 +1,10 @@
 -- Each arm gives what the definition gives for that answer, and the writer promises the answer's numbers with the room.
-use Prim.Native.Nat.{ℕ}
-use mathlib.Core.Path.{_≡_, sym, ap, _∙_}
-use mathlib.Core.List.{List}
+use mathlib.Core.Path.{ap}
 use borrow.Author.Needs.{needs}
-use Rattle.file.specs.Writer.{Wrote, wrote}
-use Rattle.file.specs.declared.Written.{Written}
+use Rattle.file.specs.Writer.{wrote}
 use Rattle.capi.specs.Outs.{writeOuts}
 use Rattle.capi.proofs.seam_write.Statement.{statement}
 use Rattle.capi.proofs.seam_write.Tie as tie
-
--- the arm that found the answer to be `found`
-arm : {answer found : Written} (room : List ℕ) {o : Wrote} → wrote answer room ≡ o → answer ≡ found
-    → writeOuts (wrote found room) ≡ writeOuts o
-arm room promised e = ap writeOuts (sym (ap (λ (a : Written). wrote a room) e) ∙ promised)
 
 write-requires : tie.Need-write-requires
 write-requires c κs = search needs
@@ -28,14 +20,14 @@ same-length c = search needs
 
 returns : tie.Need-returns
 unfolding writeOuts wrote
-returns c = arm _ (c .before .before .before .before .before .write .ensures) (c .before .filled .given .1)
+returns c = ap writeOuts (rw (c .before .filled .given .1) at (c .before .before .before .before .before .write .ensures))
 
 same-length-2 : tie.Need-same-length-2
 same-length-2 c = search needs
 
 returns-2 : tie.Need-returns-2
 unfolding writeOuts wrote
-returns-2 c = arm _ (c .before .before .before .before .before .write .ensures) (c .before .r .given .1)
+returns-2 c = ap writeOuts (rw (c .before .r .given .1) at (c .before .before .before .before .before .write .ensures))
 
 pub seam-write-spec : {M : Type 1} → statement M
 seam-write-spec =

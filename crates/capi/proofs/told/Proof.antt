@@ -1,5 +1,4 @@
 -- Each arm gives what the definition gives for that verdict.
-use mathlib.Core.Path.{sym, ap}
 use borrow.Author.Needs.{needs}
 use Rattle.refusal.specs.Tests.{numberOf, placeOf}
 use Rattle.capi.specs.Outs.{testOuts}
@@ -14,11 +13,11 @@ enum-known-verdict c = search needs
 
 returns : tie.Need-returns
 unfolding testOuts numberOf placeOf
-returns c = sym (ap testOuts (c .enum-told .given .1))
+returns c = rw (c .enum-told .given .1)
 
 returns-2 : tie.Need-returns-2
 unfolding testOuts numberOf placeOf
-returns-2 c = sym (ap testOuts (c .before .verdict .given .1))
+returns-2 c = rw (c .before .verdict .given .1)
 
 pub told-spec : {M : Type 1} → statement M
 told-spec = tie.close (tie.spec enum-told enum-known-verdict returns returns-2)

@@ -1,14 +1,12 @@
 -- `read`: a refused file leaves the rooms alone; a file whose tests are fine has all that the storing pass asks, and rooms
 -- filled to their ends are what the definition says.
-use Prim.Native.Nat.{ℕ}
-use mathlib.Core.Path.{_≡_, sym, ap, _∙_}
-use mathlib.Core.List.{List}
+use mathlib.Core.Path.{_≡_, sym, _∙_}
 use borrow.Author.Needs.{needs}
 use denote.Ref.{now}
 use lib.ListN.{length}
+use Rattle.basics.proofs.Laws.{read-off}
 use Rattle.refusal.specs.declared.Verdict.{Verdict}
-use Rattle.file.specs.declared.Opened.{Opened}
-use Rattle.file.specs.Reader.{framesOf, stopOf, readTest, Outcome, outcome, told}
+use Rattle.file.specs.Reader.{framesOf, stopOf, readTest, Outcome, told}
 use Rattle.file.proofs.Reader.{readable, stores-order, stores-rows, read-refused, read-fine}
 use Rattle.file.proofs.Heading.{index-is, refused-is}
 use Rattle.file.proofs.read.Statement.{statement}
@@ -23,14 +21,10 @@ enum-known-opened c = search needs
 enum-told : tie.Need-enum-told
 enum-told c = search needs
 
--- the outcome, and the numbers of its answer
-said : {a : Opened} {o l c : List ℕ} {out : Outcome} → outcome a o l c ≡ out → (outcome a o l c ≡ out) × (told a ≡ told (out .answer))
-said e = (e, ap (λ (out : Outcome). told (out .answer)) e)
-
 returns : tie.Need-returns
 returns c =
     let g = c .enum-told .given .1 in
-    said (read-refused _ _ _ _ _ g (refused-is _ _ _ (sym g ∙ c .before .before .file .ensures)))
+    read-off (λ (out : Outcome). told (out .answer)) (read-refused _ _ _ _ _ g (refused-is _ _ _ (sym g ∙ c .before .before .file .ensures)))
 
 -- the tests are fine, and these are the file's n and k
 found : (c : tie.After-known-told) →
@@ -65,7 +59,7 @@ returns-2 c =
     let r = c .before .before .before .before in
     let o = r .before .before .before .before .before in
     let (e, p, q) = found (o .before .before) in
-    said (read-fine _ _ _ _ _ e p q (o .order .ensures) (r .rows .ensures .0) (r .rows .ensures .1))
+    read-off (λ (out : Outcome). told (out .answer)) (read-fine _ _ _ _ _ e p q (o .order .ensures) (r .rows .ensures .0) (r .rows .ensures .1))
 
 pub read-spec : {M : Type 1} → statement M
 read-spec =

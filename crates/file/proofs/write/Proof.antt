@@ -66,7 +66,7 @@ enum-told : tie.Need-enum-told
 enum-told c = search needs
 
 size-requires : tie.Need-size-requires
-size-requires c κs = let f = passed c in (f .rooms .frames, omega (arith, f .rooms .each, f .rooms .frames))
+size-requires c κs = let f = passed c in (f .rooms .sizes .frames, omega (arith, f .rooms .each, f .rooms .sizes .frames))
 
 out-fits-requires : tie.Need-out-fits-requires
 out-fits-requires c κs = search needs

@@ -1,7 +1,7 @@
 -- `links::check_order` meets its contract: at each return the tests that led there say which test of `checkOrder` decides.
 use mathlib.Core.Path.{sym, _∙_}
 use borrow.Author.Needs.{needs}
-use Rattle.links.proofs.Links.{frames-held}
+use Rattle.refusal.proofs.SizeLaws.{frames-held}
 use Rattle.links.proofs.Order.{order-alone, order-unfit, order-length}
 use Rattle.links.proofs.check_order.Statement.{statement}
 use Rattle.links.proofs.check_order.Tie as tie

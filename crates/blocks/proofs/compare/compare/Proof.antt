@@ -22,15 +22,6 @@ sums-of-requires c κs = search needs
 compare-row-requires : tie.Need-compare-row-requires Inv-loop μ-loop
 compare-row-requires c κs = search needs
 
-unequal-requires : tie.Need-unequal-requires Inv-loop μ-loop
-unequal-requires c κs = search needs
-
-returns : tie.Need-returns Inv-loop μ-loop
-returns c = search needs
-
-compared-requires : tie.Need-compared-requires Inv-loop μ-loop
-compared-requires c κs = search needs
-
 add-s : tie.Need-add-s Inv-loop μ-loop
 add-s c = search needs
 
@@ -40,8 +31,8 @@ loop-less c = search needs
 loop-again : tie.Need-loop-again Inv-loop μ-loop
 loop-again c = search needs
 
-returns-2 : tie.Need-returns-2 Inv-loop μ-loop
-returns-2 c = search needs
+returns : tie.Need-returns Inv-loop μ-loop
+returns c = search needs
 
 pub compare-spec : {M : Type 1} → statement M
 compare-spec =
@@ -53,10 +44,7 @@ compare-spec =
     loop-holds
     sums-of-requires
     compare-row-requires
-    unequal-requires
-    returns
-    compared-requires
     add-s
     loop-less
     loop-again
-    returns-2)
+    returns)

@@ -7,18 +7,18 @@ use Rattle.blocks.proofs.random.try_order.Statement.{statement}
 use Rattle.blocks.proofs.random.try_order.Tie as tie
 
 abbrev Inv-loop : tie.InvT-loop
-Inv-loop n w starts places order labels₀ counts₀ met₀ queue₀ sums₀ tally₀ k₀
+Inv-loop is-random seed n w starts places order labels₀ counts₀ met₀ queue₀ sums₀ tally₀ k₀
     labels counts met queue sums tally k =
     (n ≤ 200) × (length labels ≡ length labels₀) × (length counts ≡ length counts₀) ×
     (length met ≡ length met₀) × (length queue ≡ length queue₀) × (length sums ≡ length sums₀)
 
 abbrev μ-loop : tie.MeasureT-loop
-μ-loop n w starts places order labels₀ counts₀ met₀ queue₀ sums₀ tally₀ k₀
+μ-loop is-random seed n w starts places order labels₀ counts₀ met₀ queue₀ sums₀ tally₀ k₀
     labels counts met queue sums tally k =
     suc n - k
 
-fill-requires : tie.Need-fill-requires Inv-loop μ-loop
-fill-requires c κs = search needs
+fill-order-requires : tie.Need-fill-order-requires Inv-loop μ-loop
+fill-order-requires c κs = search needs
 
 loop-holds : tie.Need-loop-holds Inv-loop μ-loop
 loop-holds c = search needs
@@ -53,6 +53,9 @@ same-length-4 c = search needs
 same-length-5 : tie.Need-same-length-5 Inv-loop μ-loop
 same-length-5 c = search needs
 
+same-length-6 : tie.Need-same-length-6 Inv-loop μ-loop
+same-length-6 c = search needs
+
 returns : tie.Need-returns Inv-loop μ-loop
 returns c = search needs
 
@@ -62,7 +65,7 @@ try-order-spec =
     (tie.spec
     Inv-loop
     μ-loop
-    fill-requires
+    fill-order-requires
     loop-holds
     try-stop-requires
     take-hub-requires
@@ -74,4 +77,5 @@ try-order-spec =
     same-length-3
     same-length-4
     same-length-5
+    same-length-6
     returns)

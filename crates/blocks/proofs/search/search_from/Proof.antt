@@ -16,11 +16,8 @@ abbrev μ-loop : tie.MeasureT-loop
 fill-requires : tie.Need-fill-requires Inv-loop μ-loop
 fill-requires c κs = search needs
 
-put-requires : tie.Need-put-requires Inv-loop μ-loop
-put-requires c κs = search needs
-
-push-requires : tie.Need-push-requires Inv-loop μ-loop
-push-requires c κs = search needs
+meet-requires : tie.Need-meet-requires Inv-loop μ-loop
+meet-requires c κs = search needs
 
 loop-holds : tie.Need-loop-holds Inv-loop μ-loop
 loop-holds c = search needs
@@ -68,8 +65,7 @@ search-from-spec =
     Inv-loop
     μ-loop
     fill-requires
-    put-requires
-    push-requires
+    meet-requires
     loop-holds
     same-length
     same-length-2

@@ -3,6 +3,7 @@
 use Prim.Native.Nat.{_-_}
 use mathlib.Core.Path.{_≡_, sym, ap, _∙_}
 use native.Mathlib.Omega.{arith}
+use borrow.Author.Needs.{needs}
 use lib.ListN.{length, length-replicate}
 use Rattle.build.specs.Explore.{Bfs, drops}
 use Rattle.build.proofs.BfsStart.{bfs-start}
@@ -24,9 +25,7 @@ queue-long : (s : tie.Start Inv-loop μ-loop) → length (s .args .queue .now) �
 queue-long s = ap length (s .pre .queue-zero) ∙ length-replicate _ 0
 
 mul-met : tie.Need-mul-met Inv-loop μ-loop
-mul-met c =
-    let s = c .before .before .before .before .before .before .before in
-    omega (arith, s .pre .hub-in, s .pre .given .frames)
+mul-met c = search needs
 
 slice-write-met : tie.Need-slice-write-met Inv-loop μ-loop
 slice-write-met c =
@@ -34,9 +33,7 @@ slice-write-met c =
     omega (arith, s .pre .hub-in, met-long s)
 
 cast-queue : tie.Need-cast-queue Inv-loop μ-loop
-cast-queue c =
-    let s = c .before .before .before .before .before .before .before in
-    omega (arith, s .pre .hub-in, s .pre .given .frames)
+cast-queue c = search needs
 
 slice-write-queue : tie.Need-slice-write-queue Inv-loop μ-loop
 slice-write-queue c =

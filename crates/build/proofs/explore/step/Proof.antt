@@ -25,42 +25,42 @@ cast-u c = omega (arith, c .slice-known3 .given (c .before .before .before .befo
 mul-mark : tie.Need-mul-mark
 mul-mark c =
     let s = c .before .before .before .before .before .before .before .before in
-    omega (arith, head-in (s .pre .so-far) (s .pre .more), s .pre .given .frames)
+    omega (arith, head-in (s .pre), s .pre .given .frames)
 
 slice-read-mark : tie.Need-slice-read-mark
 slice-read-mark c =
     let s = c .before .before .before .before .before .before .before .before .before in
-    omega (arith, head-in (s .pre .so-far) (s .pre .more), s .pre .so-far .long)
+    omega (arith, head-in (s .pre), s .pre .so-far .long)
 
 sub-level : tie.Need-sub-level
 sub-level c =
     let s = c .before .before .before .before .before .before .before .before .before in
-    head-met (s .pre .so-far) (s .pre .more)
+    head-met (s .pre)
 
 cast-level : tie.Need-cast-level
 cast-level c =
     let s = c .before .before .before .before .before .before .before .before .before in
-    omega (arith, head-low (s .pre .so-far) (s .pre .more), s .pre .given .frames)
+    omega (arith, head-low (s .pre), s .pre .given .frames)
 
 dropped-requires : tie.Need-dropped-requires
 dropped-requires c κs =
     let s = c .before .before .before .before .before .before .before .before .before in
-    s .pre .given .test _ (head-in (s .pre .so-far) (s .pre .more))
+    s .pre .given .test _ (head-in (s .pre))
 
 add-met : tie.Need-add-met
 add-met c =
     let s = c .before .before .before .before .before .before .before .before .before .before .before in
-    omega (arith, head-low (s .pre .so-far) (s .pre .more), s .pre .given .frames)
+    omega (arith, head-low (s .pre), s .pre .given .frames)
 
 mul-met : tie.Need-mul-met
 mul-met c =
     let s = c .before .before .before .before .before .before .before .before .before .before .before in
-    omega (arith, head-in (s .pre .so-far) (s .pre .more), s .pre .given .frames)
+    omega (arith, head-in (s .pre), s .pre .given .frames)
 
 slice-write-met : tie.Need-slice-write-met
 slice-write-met c =
     let s = c .before .before .before .before .before .before .before .before .before .before .before in
-    omega (arith, head-in (s .pre .so-far) (s .pre .more), s .pre .so-far .long)
+    omega (arith, head-in (s .pre), s .pre .so-far .long)
 
 same-length : tie.Need-same-length
 same-length c = search needs
@@ -73,7 +73,7 @@ returns c =
 add-meet : tie.Need-add-meet
 add-meet c =
     let s = c .before .before .before .before .before .before .before .before .before .before .before in
-    omega (arith, head-low (s .pre .so-far) (s .pre .more), s .pre .given .frames)
+    omega (arith, head-low (s .pre), s .pre .given .frames)
 
 meet-requires : tie.Need-meet-requires
 meet-requires c κs =
@@ -82,8 +82,8 @@ meet-requires c κs =
     record {
       block = rw (b .long) (s .pre .given .block);
       frames = omega (arith, b .long, s .pre .given .frames);
-      frame = omega (arith, b .long, head-in b (s .pre .more));
-      some = omega (arith, head-met b (s .pre .more));
+      frame = omega (arith, b .long, head-in (s .pre));
+      some = omega (arith, head-met (s .pre));
       line = b .line;
     }
 
@@ -99,9 +99,8 @@ returns-2 c =
     let s =
     k .before .before .before .before .before .before .before .before .before .before .before .before .before .before in
     let b = s .pre .so-far in
-    let m = s .pre .more in
-    bfs-keep b m _ refl (k .before .before .before .before .dropped .ensures) (k .before .before .before .if1 .left)
-    (s .pre .given .frames) (k .meet .ensures) (λ v l. link-inside (s .pre .given .block) (head-in b m) l)
+    bfs-keep b (s .pre .more) _ refl (k .before .before .before .before .dropped .ensures) (k .before .before .before .if1 .left)
+    (s .pre .given .frames) (k .meet .ensures) (λ v l. link-inside (s .pre .given .block) (head-in (s .pre)) l)
 
 pub step-spec : {M : Type 1} → statement M
 step-spec =

@@ -88,7 +88,7 @@ returns-2 c =
     let j = k .before .before .before .before .before .before .before .before .before .before .before .before .before .before .before in
     made-out (k .walks .ensures) (j .clear .kept .0) (c .before .before .enum-told .given .1)
     (c .total .ensures .0
-    ∙ total-sum _ (omega (arith, k .walks .kept .1 .1 .1 .1 .1 .1 .0, j .clear .kept .0, j .before .before .before .before .before .before .before .before .before .before .before .before .before .pre .frames)))
+    ∙ total-sum _ (omega (arith, k .walks .kept .1 .1 .1 .1 .1 .1 .0, j .clear .kept .0, j .before .before .before .before .before .before .before .before .before .before .before .before .before .pre .given .sizes .frames)))
 
 pub make-spec : {M : Type 1} → statement M
 make-spec =

@@ -5,7 +5,7 @@ use mathlib.Core.Path.{sym, _∙_}
 use native.Mathlib.Omega.{arith}
 use borrow.Author.Needs.{needs}
 use lib.ListN.{length}
-use Rattle.build.proofs.RunState.{Running, run-begins, run-ends, run-lengths, run-ready, run-next, run-stops}
+use Rattle.build.proofs.RunState.{Running, AsLong, run-begins, run-ends, run-lengths, run-ready, run-next, run-stops}
 use Rattle.build.proofs.run.run.Statement.{statement}
 use Rattle.build.proofs.run.run.Tie as tie
 
@@ -16,18 +16,26 @@ Inv-loop w k starts places order labels₀ counts₀ met₀ queue₀ noted₀ ra
 abbrev μ-loop : tie.MeasureT-loop
 μ-loop w k starts places order labels₀ counts₀ met₀ queue₀ noted₀ rank₀ labels counts met queue noted rank = k - rank
 
+-- the rooms of a turn are as long as they were lent
+as-long : (l : tie.At-loop Inv-loop μ-loop) →
+    let a = l .before .before .before .before .before .before .before .before .before .args in
+    let r = l .loop in
+    AsLong (a .labels .now) (a .counts .now) (a .met .now) (a .queue .now) (a .noted .now) (r .labels) (r .counts) (r .met)
+    (r .queue) (r .noted)
+as-long l = run-lengths (l .before .before .before .before .before .before .before .before .before .pre) (l .loop .inv)
+
 loop-holds : tie.Need-loop-holds Inv-loop μ-loop
 loop-holds c = run-begins (c .before .before .before .before .before .before .before .before .pre)
 
 mul-hub : tie.Need-mul-hub Inv-loop μ-loop
 mul-hub c =
     let p = c .before .before .before .before .before .before .before .before .before .before .pre in
-    omega (arith, p .order .long, p .stop)
+    omega (arith, p .given .order .long, p .given .stop)
 
 shared-slice-read-hub : tie.Need-shared-slice-read-hub Inv-loop μ-loop
 shared-slice-read-hub c =
     let p = c .before .before .before .before .before .before .before .before .before .before .before .pre in
-    omega (arith, p .order .long, p .stop)
+    omega (arith, p .given .order .long, p .given .stop)
 
 cast-hub : tie.Need-cast-hub Inv-loop μ-loop
 cast-hub c = omega (arith, c .shared-slice-known4 .given (c .before .before .loop .rank))
@@ -49,32 +57,27 @@ enum-told-2 c = search needs
 same-length : tie.Need-same-length Inv-loop μ-loop
 same-length c =
     let w = c .before .before .before .before .before .before .before .before .before .before .before .before .before in
-    let t = w .before .before .before .before .before .before .before in
-    w .walk .kept .1 .1 .1 .1 .0 ∙ run-lengths (t .before .before .before .before .before .before .before .before .before .before .pre) (t .before .loop .inv) .0
+    w .walk .kept .1 .1 .1 .1 .0 ∙ as-long (w .before .before .before .before .before .before .before .before) .of-labels
 
 same-length-2 : tie.Need-same-length-2 Inv-loop μ-loop
 same-length-2 c =
     let w = c .before .before .before .before .before .before .before .before .before .before .before .before .before in
-    let t = w .before .before .before .before .before .before .before in
-    w .walk .kept .1 .1 .1 .1 .1 .0 ∙ run-lengths (t .before .before .before .before .before .before .before .before .before .before .pre) (t .before .loop .inv) .1
+    w .walk .kept .1 .1 .1 .1 .1 .0 ∙ as-long (w .before .before .before .before .before .before .before .before) .of-counts
 
 same-length-3 : tie.Need-same-length-3 Inv-loop μ-loop
 same-length-3 c =
     let w = c .before .before .before .before .before .before .before .before .before .before .before .before .before in
-    let t = w .before .before .before .before .before .before .before in
-    w .walk .kept .1 .1 .1 .1 .1 .1 .1 .0 ∙ run-lengths (t .before .before .before .before .before .before .before .before .before .before .pre) (t .before .loop .inv) .2
+    w .walk .kept .1 .1 .1 .1 .1 .1 .1 .0 ∙ as-long (w .before .before .before .before .before .before .before .before) .of-met
 
 same-length-4 : tie.Need-same-length-4 Inv-loop μ-loop
 same-length-4 c =
     let w = c .before .before .before .before .before .before .before .before .before .before .before .before .before in
-    let t = w .before .before .before .before .before .before .before in
-    w .walk .kept .1 .1 .1 .1 .1 .1 .1 .1 .0 ∙ run-lengths (t .before .before .before .before .before .before .before .before .before .before .pre) (t .before .loop .inv) .3
+    w .walk .kept .1 .1 .1 .1 .1 .1 .1 .1 .0 ∙ as-long (w .before .before .before .before .before .before .before .before) .of-queue
 
 same-length-5 : tie.Need-same-length-5 Inv-loop μ-loop
 same-length-5 c =
     let w = c .before .before .before .before .before .before .before .before .before .before .before .before .before in
-    let t = w .before .before .before .before .before .before .before in
-    w .walk .kept .1 .1 .1 .1 .1 .1 .1 .1 .1 .0 ∙ run-lengths (t .before .before .before .before .before .before .before .before .before .before .pre) (t .before .loop .inv) .4
+    w .walk .kept .1 .1 .1 .1 .1 .1 .1 .1 .1 .0 ∙ as-long (w .before .before .before .before .before .before .before .before) .of-noted
 
 returns : tie.Need-returns Inv-loop μ-loop
 returns c =
@@ -99,19 +102,19 @@ loop-again c =
     (sym (v .verdict-of .ensures) ∙ c .enum-told .given .1)
 
 same-length-6 : tie.Need-same-length-6 Inv-loop μ-loop
-same-length-6 c = run-lengths (c .before .before .before .before .before .before .before .before .before .before .pre) (c .before .loop .inv) .0
+same-length-6 c = as-long (c .before) .of-labels
 
 same-length-7 : tie.Need-same-length-7 Inv-loop μ-loop
-same-length-7 c = run-lengths (c .before .before .before .before .before .before .before .before .before .before .pre) (c .before .loop .inv) .1
+same-length-7 c = as-long (c .before) .of-counts
 
 same-length-8 : tie.Need-same-length-8 Inv-loop μ-loop
-same-length-8 c = run-lengths (c .before .before .before .before .before .before .before .before .before .before .pre) (c .before .loop .inv) .2
+same-length-8 c = as-long (c .before) .of-met
 
 same-length-9 : tie.Need-same-length-9 Inv-loop μ-loop
-same-length-9 c = run-lengths (c .before .before .before .before .before .before .before .before .before .before .pre) (c .before .loop .inv) .3
+same-length-9 c = as-long (c .before) .of-queue
 
 same-length-10 : tie.Need-same-length-10 Inv-loop μ-loop
-same-length-10 c = run-lengths (c .before .before .before .before .before .before .before .before .before .before .pre) (c .before .loop .inv) .4
+same-length-10 c = as-long (c .before) .of-noted
 
 returns-2 : tie.Need-returns-2 Inv-loop μ-loop
 returns-2 c = run-ends (c .loop-test .left) (c .before .loop .inv)

@@ -1,11 +1,14 @@
--- Each way out goes by the lengths compared before it.
-use Prim.Native.Nat.{_+_, _*_}
-use mathlib.Core.Path.{refl}
+-- A wrong length refutes what the test says where it holds; with five right ones the sixth decides.
+use Prim.Native.Nat.{ℕ, _+_, _*_}
+use mathlib.Core.Path.{_≡_, refl, sym}
+use mathlib.Core.Bool.{false}
 use native.Mathlib.Nat.{mul-le-mul}
 use native.Mathlib.Omega.{arith}
 use borrow.Author.Needs.{needs}
-use borrow.Author.Tests.{eq-eqb, ne-eqb}
+use borrow.Author.Tests.{eq-eqb}
+use Rattle.basics.proofs.Laws.{bcase}
 use Rattle.build.specs.Build.{buildRooms}
+use Rattle.build.proofs.BuildTests.{Lengths, rooms-hold}
 use Rattle.build.proofs.tests.rooms_fit.Statement.{statement}
 use Rattle.build.proofs.tests.rooms_fit.Tie as tie
 
@@ -15,53 +18,28 @@ add-starts-long c = search needs
 mul-labels-long : tie.Need-mul-labels-long
 mul-labels-long c = omega (arith, mul-le-mul (c .before .before .pre .0) (c .before .before .pre .1))
 
+-- one length that is not as asked
+refused : (n w starts order labels counts met queue : ℕ) → (Lengths n w starts order labels counts met queue → ⊥)
+    → false ≡ buildRooms n w starts order labels counts met queue
+refused n w starts order labels counts met queue wrong =
+    bcase (buildRooms n w starts order labels counts met queue)
+    (λ e. absurd (wrong (rooms-hold n w starts order labels counts met queue e)))
+    sym
+
 returns : tie.Need-returns
-unfolding buildRooms
-returns c =
-    let a = c .before .args in
-    rw (ne-eqb (a .starts) (a .n + 1) (c .if1 .taken)) refl
+returns c = refused _ _ _ _ _ _ _ _ (λ l. c .if1 .taken (l .starts-long))
 
 returns-2 : tie.Need-returns-2
-unfolding buildRooms
-returns-2 c =
-    let a = c .before .before .args in
-    rw (
-      eq-eqb (a .starts) (a .n + 1) (c .before .if1 .left),
-      ne-eqb (a .order) (a .n) (c .if2 .taken),
-    ) refl
+returns-2 c = refused _ _ _ _ _ _ _ _ (λ l. c .if2 .taken (l .order-long))
 
 returns-3 : tie.Need-returns-3
-unfolding buildRooms
-returns-3 c =
-    let a = c .before .before .before .args in
-    rw (
-      eq-eqb (a .starts) (a .n + 1) (c .before .before .if1 .left),
-      eq-eqb (a .order) (a .n) (c .before .if2 .left),
-      ne-eqb (a .labels) (a .n * a .w) (c .if3 .taken),
-    ) refl
+returns-3 c = refused _ _ _ _ _ _ _ _ (λ l. c .if3 .taken (l .labels-long))
 
 returns-4 : tie.Need-returns-4
-unfolding buildRooms
-returns-4 c =
-    let a = c .before .before .before .before .args in
-    rw (
-      eq-eqb (a .starts) (a .n + 1) (c .before .before .before .if1 .left),
-      eq-eqb (a .order) (a .n) (c .before .before .if2 .left),
-      eq-eqb (a .labels) (a .n * a .w) (c .before .if3 .left),
-      ne-eqb (a .counts) (a .n) (c .if4 .taken),
-    ) refl
+returns-4 c = refused _ _ _ _ _ _ _ _ (λ l. c .if4 .taken (l .counts-long))
 
 returns-5 : tie.Need-returns-5
-unfolding buildRooms
-returns-5 c =
-    let a = c .before .before .before .before .before .args in
-    rw (
-      eq-eqb (a .starts) (a .n + 1) (c .before .before .before .before .if1 .left),
-      eq-eqb (a .order) (a .n) (c .before .before .before .if2 .left),
-      eq-eqb (a .labels) (a .n * a .w) (c .before .before .if3 .left),
-      eq-eqb (a .counts) (a .n) (c .before .if4 .left),
-      ne-eqb (a .met) (a .n) (c .if5 .taken),
-    ) refl
+returns-5 c = refused _ _ _ _ _ _ _ _ (λ l. c .if5 .taken (l .met-long))
 
 returns-6 : tie.Need-returns-6
 unfolding buildRooms

@@ -2,7 +2,6 @@
 use mathlib.Core.Path.{refl, sym, _∙_}
 use borrow.Author.Needs.{needs}
 use borrow.Author.Tests.{le-leb, lt-leb, not-true, not-false}
-use Rattle.links.specs.Links.{placesFit}
 use Rattle.build.specs.Build.{buildSizes}
 use Rattle.build.proofs.tests.sizes_fit.Statement.{statement}
 use Rattle.build.proofs.tests.sizes_fit.Tie as tie
@@ -23,12 +22,16 @@ returns-2 c =
     let fit = sym (c .before .before .sizes-fit .ensures) ∙ not-false _ (c .before .if1 .left) in
     rw (fit, lt-leb (a .k) (a .n) (c .if2 .taken)) refl
 
+places-fit-requires : tie.Need-places-fit-requires
+places-fit-requires c κs = search needs
+
 returns-3 : tie.Need-returns-3
-unfolding buildSizes placesFit
+unfolding buildSizes
 returns-3 c =
-    let a = c .before .before .before .args in
-    let fit = sym (c .before .before .sizes-fit .ensures) ∙ not-false _ (c .before .if1 .left) in
-    rw (fit, le-leb (a .k) (a .n) (c .if2 .left)) refl
+    let d = c .before in
+    let a = d .before .before .before .args in
+    let fit = sym (d .before .before .sizes-fit .ensures) ∙ not-false _ (d .before .if1 .left) in
+    rw (fit, le-leb (a .k) (a .n) (d .if2 .left)) (c .places-fit .ensures)
 
 pub sizes-fit-spec : {M : Type 1} → statement M
-sizes-fit-spec = tie.close (tie.spec sizes-fit-requires returns returns-2 returns-3)
+sizes-fit-spec = tie.close (tie.spec sizes-fit-requires returns returns-2 places-fit-requires returns-3)

@@ -26,20 +26,20 @@ returns-2 c = search needs
 mul-places : tie.Need-mul-places
 mul-places c = search needs
 
-slice-relend-prefix-read : tie.Need-slice-relend-prefix-read
-slice-relend-prefix-read c = search needs
+array-borrow-prefix-order : tie.Need-array-borrow-prefix-order
+array-borrow-prefix-order c = search needs
 
 slice-aggregate-read : tie.Need-slice-aggregate-read
 slice-aggregate-read c = sym (length-take-le _ _ (search needs))
 
-slice-relend-prefix-read-2 : tie.Need-slice-relend-prefix-read-2
-slice-relend-prefix-read-2 c = search needs
+array-borrow-prefix-labels : tie.Need-array-borrow-prefix-labels
+array-borrow-prefix-labels c = search needs
 
 slice-aggregate-read-2 : tie.Need-slice-aggregate-read-2
 slice-aggregate-read-2 c = sym (length-take-le _ _ (search needs))
 
-slice-relend-prefix-read-3 : tie.Need-slice-relend-prefix-read-3
-slice-relend-prefix-read-3 c = search needs
+array-borrow-prefix-counts : tie.Need-array-borrow-prefix-counts
+array-borrow-prefix-counts c = search needs
 
 slice-aggregate-read-3 : tie.Need-slice-aggregate-read-3
 slice-aggregate-read-3 c = sym (length-take-le _ _ (search needs))
@@ -49,15 +49,6 @@ read-requires c κs = search needs
 
 place-requires-2 : tie.Need-place-requires-2
 place-requires-2 c κs = search needs
-
-same-length : tie.Need-same-length
-same-length c = search needs
-
-same-length-2 : tie.Need-same-length-2
-same-length-2 c = search needs
-
-same-length-3 : tie.Need-same-length-3
-same-length-3 c = search needs
 
 returns-3 : tie.Need-returns-3
 returns-3 c = search needs
@@ -73,15 +64,12 @@ judge-spec =
     returns
     returns-2
     mul-places
-    slice-relend-prefix-read
+    array-borrow-prefix-order
     slice-aggregate-read
-    slice-relend-prefix-read-2
+    array-borrow-prefix-labels
     slice-aggregate-read-2
-    slice-relend-prefix-read-3
+    array-borrow-prefix-counts
     slice-aggregate-read-3
     read-requires
     place-requires-2
-    same-length
-    same-length-2
-    same-length-3
     returns-3)

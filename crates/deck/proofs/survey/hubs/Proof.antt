@@ -1,5 +1,5 @@
 -- The room keeps its length. What is left of the ranks shrinks.
-use Prim.Native.Nat.{_-_, _≤_}
+use Prim.Native.Nat.{_-_}
 use native.Mathlib.Omega.{arith}
 use mathlib.Core.Path.{_≡_, refl}
 use lib.ListN.{length, length-set}
@@ -16,11 +16,17 @@ abbrev μ-loop : tie.MeasureT-loop
 loop-holds : tie.Need-loop-holds Inv-loop μ-loop
 loop-holds c = refl
 
-strip-at-requires : tie.Need-strip-at-requires Inv-loop μ-loop
-strip-at-requires c κs = omega arith
+add-reversed : tie.Need-add-reversed Inv-loop μ-loop
+add-reversed c = omega arith
 
-place-at-requires : tie.Need-place-at-requires Inv-loop μ-loop
-place-at-requires c κs = omega arith
+reversed-requires : tie.Need-reversed-requires Inv-loop μ-loop
+reversed-requires c κs = omega arith
+
+add-reversed-2 : tie.Need-add-reversed-2 Inv-loop μ-loop
+add-reversed-2 c = omega arith
+
+reversed-requires-2 : tie.Need-reversed-requires-2 Inv-loop μ-loop
+reversed-requires-2 c κs = omega arith
 
 mul-order : tie.Need-mul-order Inv-loop μ-loop
 mul-order c = omega arith
@@ -59,8 +65,10 @@ hubs-spec =
     Inv-loop
     μ-loop
     loop-holds
-    strip-at-requires
-    place-at-requires
+    add-reversed
+    reversed-requires
+    add-reversed-2
+    reversed-requires-2
     mul-order
     add-order
     cast-order

@@ -1,17 +1,17 @@
 -- The links end within the room, which keeps its length. What is left of the frames shrinks.
 use Prim.Native.Nat.{_-_, _≤_}
 use native.Mathlib.Omega.{arith}
-use mathlib.Core.Path.{_≡_, refl, _∙_}
+use mathlib.Core.Path.{_≡_, refl}
 use lib.ListN.{length}
 use borrow.Author.Needs.{needs}
 use Rattle.deck.proofs.survey.list.Statement.{statement}
 use Rattle.deck.proofs.survey.list.Tie as tie
 
 abbrev Inv-loop : tie.InvT-loop
-Inv-loop places₀ links v end₀ w₀ places end w = (end ≤ length places) × (length places ≡ length places₀)
+Inv-loop places₀ start v end₀ u₀ places end u = (end ≤ length places) × (length places ≡ length places₀)
 
 abbrev μ-loop : tie.MeasureT-loop
-μ-loop places₀ links v end₀ w₀ places end w = 256 - w
+μ-loop places₀ start v end₀ u₀ places end u = 256 - u
 
 loop-holds : tie.Need-loop-holds Inv-loop μ-loop
 loop-holds c = (omega arith, refl)
@@ -19,8 +19,8 @@ loop-holds c = (omega arith, refl)
 meet-requires : tie.Need-meet-requires Inv-loop μ-loop
 meet-requires c κs = omega arith
 
-add-w : tie.Need-add-w Inv-loop μ-loop
-add-w c = omega arith
+add-u : tie.Need-add-u Inv-loop μ-loop
+add-u c = omega arith
 
 loop-less : tie.Need-loop-less Inv-loop μ-loop
 loop-less c = omega arith
@@ -42,7 +42,7 @@ list-spec =
     μ-loop
     loop-holds
     meet-requires
-    add-w
+    add-u
     loop-less
     loop-again
     same-length

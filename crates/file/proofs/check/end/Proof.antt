@@ -18,12 +18,7 @@ sub-get c = search needs
 
 get-requires : tie.Need-get-requires
 unfolding byteLen
-get-requires c κs =
-    record {
-      narrow = omega arith;
-      near = omega arith;
-      there = omega (arith, c .before .pre .1);
-    }
+get-requires c κs = (search needs, omega (arith, c .before .pre .1))
 
 refused-requires : tie.Need-refused-requires
 refused-requires c κs = search needs

@@ -1,4 +1,4 @@
--- The loop of `entries`: the entries from bit `at` on, above rank `low - 1`, give what all of them give. A legal entry moves
+-- The loop of `entries`: the entries from `bit` on, above rank `low - 1`, give what all of them give. A legal entry moves
 -- on by 24 bits; the entries left fall.
 use Prim.Native.Nat.{_+_, _*_, _≤_}
 use mathlib.Core.Path.{_≡_, refl, sym, _∙_}
@@ -12,11 +12,11 @@ use Rattle.file.proofs.check.entries.Statement.{statement}
 use Rattle.file.proofs.check.entries.Tie as tie
 
 abbrev Inv-loop : tie.InvT-loop
-Inv-loop bytes n k p count at₀ low₀ left₀ at low left = (left ≤ count) × (at + 24 * left ≡ p + 24 * count) × (entriesFrom
-    bytes n k at low left ≡ entriesFrom bytes n k p 0 count)
+Inv-loop bytes n k p count bit₀ low₀ left₀ bit low left = (left ≤ count) × (bit + 24 * left ≡ p + 24 * count) × (entriesFrom
+    bytes n k bit low left ≡ entriesFrom bytes n k p 0 count)
 
 abbrev μ-loop : tie.MeasureT-loop
-μ-loop bytes n k p count at₀ low₀ left₀ at low left = left
+μ-loop bytes n k p count bit₀ low₀ left₀ bit low left = left
 
 loop-holds : tie.Need-loop-holds Inv-loop μ-loop
 loop-holds c = (omega arith, refl, refl)
@@ -47,10 +47,10 @@ add-low c =
     let r = c .before .before .before in
     let l = r .before .before in
     let (e, q) = went-on _ _ (sym (c .before .got .given .1) ∙ r .entry .ensures) in
-    omega (arith, field-lt (l .before .before .args .bytes .now) (l .loop .at) 12)
+    omega (arith, field-lt (l .before .before .args .bytes .now) (l .loop .bit) 12)
 
-add-at : tie.Need-add-at Inv-loop μ-loop
-add-at c = omega arith
+add-bit : tie.Need-add-bit Inv-loop μ-loop
+add-bit c = omega arith
 
 sub-left : tie.Need-sub-left Inv-loop μ-loop
 sub-left c = omega arith
@@ -81,7 +81,7 @@ entries-spec =
     verdict-requires
     returns
     add-low
-    add-at
+    add-bit
     sub-left
     loop-less
     loop-again

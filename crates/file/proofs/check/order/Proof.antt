@@ -4,16 +4,16 @@ use Prim.Native.Nat.{_-_, _≤_}
 use mathlib.Core.Path.{_≡_, sym, ap, _∙_}
 use native.Mathlib.Omega.{arith}
 use borrow.Author.Needs.{needs}
-use Rattle.file.specs.Reader.{orderFrom}
-use Rattle.file.specs.Steps.{Seen}
+use Rattle.file.specs.Reader.{frameAt, orderFrom}
+use Rattle.links.specs.Inner.{Seen}
+use Rattle.links.proofs.Order.{seen-none}
 use native.Mathlib.Nat.{sub-zero}
-use Rattle.file.proofs.Fields.{order-stop, order-on, order-end, seen-none}
-use Rattle.file.proofs.Steps.{went-on, stopped, verdict-refused}
+use Rattle.file.proofs.Fields.{order-stop, order-on, order-end}
 use Rattle.file.proofs.check.order.Statement.{statement}
 use Rattle.file.proofs.check.order.Tie as tie
 
 abbrev Inv-loop : tie.InvT-loop
-Inv-loop bytes n seen₀ r₀ seen r = (r ≤ n) × Seen bytes seen r × (orderFrom bytes n r (n - r) ≡ orderFrom bytes n 0 n)
+Inv-loop bytes n seen₀ r₀ seen r = (r ≤ n) × Seen (frameAt bytes) seen r × (orderFrom bytes n r (n - r) ≡ orderFrom bytes n 0 n)
 
 abbrev μ-loop : tie.MeasureT-loop
 μ-loop bytes n seen₀ r₀ seen r = n - r
@@ -34,17 +34,12 @@ enum-told c = search needs
 enum-told-2 : tie.Need-enum-told-2 Inv-loop μ-loop
 enum-told-2 c = search needs
 
-verdict-requires : tie.Need-verdict-requires Inv-loop μ-loop
-verdict-requires c κs = tt
-
 returns : tie.Need-returns Inv-loop μ-loop
 returns c =
-    let g = c .before .enum-told2 .given .1 in
-    let f = c .before .before .before .before in
+    let g = c .enum-told2 .given .1 in
+    let f = c .before .before .before in
     let t = f .before .before in
-    c .verdict .ensures ∙ verdict-refused g
-    ∙ sym (order-stop _ _ _ (t .loop-test .taken) (stopped _ _ (sym g ∙ f .order-field .ensures .0)))
-    ∙ t .before .loop .inv .2
+    g ∙ sym (order-stop _ _ _ (t .loop-test .taken) (sym (f .order-field .ensures .0) ∙ g)) ∙ t .before .loop .inv .2
 
 add-r : tie.Need-add-r Inv-loop μ-loop
 add-r c = omega arith
@@ -56,7 +51,7 @@ loop-again : tie.Need-loop-again Inv-loop μ-loop
 loop-again c =
     let f = c .before .before .before in
     let t = f .before .before in
-    let (e, q) = went-on _ _ (sym (c .enum-told .given .1) ∙ f .order-field .ensures .0) in
+    let e = sym (f .order-field .ensures .0) ∙ c .enum-told .given .1 in
     (omega arith, f .order-field .ensures .1 e, order-on _ _ _ (t .loop-test .taken) e ∙ t .before .loop .inv .2)
 
 returns-2 : tie.Need-returns-2 Inv-loop μ-loop
@@ -73,7 +68,6 @@ order-spec =
     order-field-requires
     enum-told
     enum-told-2
-    verdict-requires
     returns
     add-r
     loop-less

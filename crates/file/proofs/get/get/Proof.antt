@@ -6,7 +6,7 @@ use native.Mathlib.Omega.{arith}
 use borrow.Author.Needs.{needs}
 use lib.Pow.{shr-le}
 use Rattle.file.specs.Bits.{byteLen}
-use Rattle.file.proofs.Gather.{Gathered, gather-none, gather-lt, gather-more, gather-done, cut, cut-le}
+use Rattle.file.proofs.Gather.{Gathered, gather-none, gather-lt, gather-more, gather-done, cut}
 use Rattle.file.proofs.get.get.Statement.{statement}
 use Rattle.file.proofs.get.get.Tie as tie
 
@@ -76,12 +76,12 @@ shl-high : tie.Need-shl-high Inv-loop μ-loop
 shl-high c = omega arith
 
 sub-result : tie.Need-sub-result Inv-loop μ-loop
-sub-result c = cut-le _ (c .before .before .args .width) (top c _)
+sub-result c = cut _ (c .before .before .args .width) (top c _) .0
 
 returns : tie.Need-returns Inv-loop μ-loop
 returns c =
-    cut _ (c .before .before .args .width) (top c _)
-    ∙ gather-done (c .before .before .pre) (c .before .loop .inv) (c .loop-test .left)
+    cut _ (c .before .before .args .width) (top c _) .1
+    ∙ gather-done _ _ _ (c .before .before .pre .1) (c .before .loop .inv) (c .loop-test .left)
 
 pub get-spec : {M : Type 1} → statement M
 get-spec =

@@ -26,14 +26,14 @@ returns c = search needs
 
 get-requires : tie.Need-get-requires
 unfolding byteLen
-get-requires c κs = record { narrow = omega arith; near = omega arith; there = omega (arith, c .before .before .pre .1) }
+get-requires c κs = (search needs, omega (arith, c .before .before .pre .1))
 
 add-get : tie.Need-add-get
 add-get c = search needs
 
 get-requires-2 : tie.Need-get-requires-2
 unfolding byteLen
-get-requires-2 c κs = record { narrow = omega arith; near = omega arith; there = omega (arith, c .before .before .before .pre .1) }
+get-requires-2 c κs = (search needs, omega (arith, c .before .before .before .pre .1))
 
 -- both are below 4,096
 rank-lt : (c : tie.After-get2) → c .before .get .result < 4096

@@ -11,7 +11,7 @@ use Rattle.file.specs.declared.put.Pen.{Pen}
 use Rattle.file.specs.Bits.{bitLen, num, field}
 use Rattle.file.specs.Pen.{penNum, Ready}
 use Rattle.file.proofs.Byte.{BytesLeft, byte-room, byte-step, whole-lt, byte-none, byte-end}
-use Rattle.file.proofs.Gather.{cut, cut-le}
+use Rattle.file.proofs.Gather.{cut}
 use Rattle.file.proofs.put.put.Statement.{statement}
 use Rattle.file.proofs.put.put.Tie as tie
 
@@ -81,7 +81,7 @@ shl-acc : tie.Need-shl-acc Inv-loop μ-loop
 shl-acc c = omega (arith, c .before .loop .inv .0)
 
 sub-acc : tie.Need-sub-acc Inv-loop μ-loop
-sub-acc c = cut-le _ _ (whole-fits (c .before .before .pre .0) (c .before .before .pre .1))
+sub-acc c = cut _ _ (whole-fits (c .before .before .pre .0) (c .before .before .pre .1)) .0
 
 same-length : tie.Need-same-length Inv-loop μ-loop
 same-length c = c .before .loop .inv .1 .long
@@ -89,7 +89,7 @@ same-length c = c .before .loop .inv .1 .long
 returns : tie.Need-returns Inv-loop μ-loop
 returns c =
     let r = c .before .before .pre in
-    byte-end (r .0) _ (alone _ _) (c .before .loop .inv .1) (c .loop-test .left) (cut _ _ (whole-fits (r .0) (r .1)))
+    byte-end (r .0) _ (alone _ _) (c .before .loop .inv .1) (c .loop-test .left) (cut _ _ (whole-fits (r .0) (r .1)) .1)
 
 pub put-spec : {M : Type 1} → statement M
 put-spec =

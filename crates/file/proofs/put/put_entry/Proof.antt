@@ -1,7 +1,7 @@
 -- One entry: its two fields are one number of 24 bits, so three bytes are stored, and the bits that wait are its last ones.
 use Prim.Native.Nat.{ℕ, _+_, _-_, _*_, _/_, _%_, _^_, _<_}
 use mathlib.Core.Path.{_≡_, refl, sym, ap, _∙_}
-use mathlib.Core.List.{List, [], _∷_}
+use mathlib.Core.List.{List}
 use native.Mathlib.Omega.{arith}
 use native.Mathlib.Nat.{lt-of-lt-of-le}
 use borrow.Author.Needs.{needs}
@@ -9,11 +9,12 @@ use lib.ListN.{set}
 use lib.Pow.{pow-mono, low, mod-mod-pow}
 use Rattle.rows.specs.Entry.{rankOf, joinsOf}
 use Rattle.file.specs.declared.put.Pen.{Pen}
-use Rattle.file.specs.Bits.{Legal, bitLen, num}
-use Rattle.file.specs.Layout.{entryFields}
+use Rattle.file.specs.Bits.{Legal, num}
+use Rattle.file.specs.Layout.{pairFields}
 use Rattle.file.specs.Pen.{penBits, penNum, Ready, Put}
+use Rattle.file.proofs.LayoutLaws.{pair-bits}
 use Rattle.file.proofs.Byte.{BytesLeft, byte-room, byte-step, byte-none, byte-end}
-use Rattle.file.proofs.Gather.{cut, cut-le}
+use Rattle.file.proofs.Gather.{cut}
 use Rattle.file.proofs.put.put_entry.Statement.{statement}
 use Rattle.file.proofs.put.put_entry.Tie as tie
 
@@ -34,23 +35,19 @@ second o p whole = set (first o p whole) (p .at + 1) (whole / 2 ^ (p .nb + 8) % 
 abbrev third : List ℕ → Pen → ℕ → List ℕ
 third o p whole = set (second o p whole) (p .at + 2) (whole / 2 ^ p .nb % 256)
 
-len : (e : ℕ) → bitLen (entryFields (e ∷ [])) ≡ 24
-unfolding bitLen entryFields
-len e = refl
-
 -- a pen with room for an entry, and its two parts
 record Given (e : ℕ) (o : List ℕ) (p : Pen) (rank joins : ℕ) : Type 0 where
-  ready : Ready o p (entryFields (e ∷ []))
+  ready : Ready o p (pairFields e)
   its-rank : rank ≡ rankOf e
   its-joins : joins ≡ joinsOf e
 
 module _ {e : ℕ} {o : List ℕ} {p : Pen} {rank joins : ℕ} (g : Given e o p rank joins) where
   rank-lt : rank < 4096
-  unfolding Legal entryFields
+  unfolding Legal
   rank-lt = omega (arith, g .ready .legal .0, g .its-rank)
 
   joins-lt : joins < 4096
-  unfolding Legal entryFields
+  unfolding Legal
   joins-lt = omega (arith, g .ready .legal .1 .0, g .its-joins)
 
   held-lt : p .acc < 128
@@ -62,25 +59,25 @@ module _ {e : ℕ} {o : List ℕ} {p : Pen} {rank joins : ℕ} (g : Given e o p 
   whole-fits : wholeOf (p .acc) rank joins < 2 ^ 64
   whole-fits = omega (arith, both-lt, held-lt)
 
-  both-is : bothOf rank joins ≡ num 0 (entryFields (e ∷ []))
-  unfolding num entryFields
+  both-is : bothOf rank joins ≡ num 0 (pairFields e)
+  unfolding num
   both-is = omega (arith, rank-lt, g .its-rank, g .its-joins)
 
   whole-is : wholeOf (p .acc) rank joins ≡ p .acc * 2 ^ 24 + bothOf rank joins
   whole-is = omega (arith, held-lt)
 
-  none : BytesLeft o (num (penNum o p) (entryFields (e ∷ []))) (penBits p + 24) (wholeOf (p .acc) rank joins) o (p .at) (p .nb + 24)
-  none = byte-none (g .ready) 24 (len e) (whole-is ∙ ap (λ (y : ℕ). p .acc * 2 ^ 24 + y) both-is)
+  none : BytesLeft o (num (penNum o p) (pairFields e)) (penBits p + 24) (wholeOf (p .acc) rank joins) o (p .at) (p .nb + 24)
+  none = byte-none (g .ready) 24 (pair-bits e) (whole-is ∙ ap (λ (y : ℕ). p .acc * 2 ^ 24 + y) both-is)
 
-  one : BytesLeft o (num (penNum o p) (entryFields (e ∷ []))) (penBits p + 24) (wholeOf (p .acc) rank joins)
+  one : BytesLeft o (num (penNum o p) (pairFields e)) (penBits p + 24) (wholeOf (p .acc) rank joins)
       (first o p (wholeOf (p .acc) rank joins)) (p .at + 1) (p .nb + 16)
   one = byte-step none (p .nb + 16) (omega arith) _ refl
 
-  two : BytesLeft o (num (penNum o p) (entryFields (e ∷ []))) (penBits p + 24) (wholeOf (p .acc) rank joins)
+  two : BytesLeft o (num (penNum o p) (pairFields e)) (penBits p + 24) (wholeOf (p .acc) rank joins)
       (second o p (wholeOf (p .acc) rank joins)) (p .at + 2) (p .nb + 8)
   two = byte-step one (p .nb + 8) (omega arith) (p .at + 2) (omega arith)
 
-  three : BytesLeft o (num (penNum o p) (entryFields (e ∷ []))) (penBits p + 24) (wholeOf (p .acc) rank joins)
+  three : BytesLeft o (num (penNum o p) (pairFields e)) (penBits p + 24) (wholeOf (p .acc) rank joins)
       (third o p (wholeOf (p .acc) rank joins)) (p .at + 3) (p .nb)
   three = byte-step two (p .nb) (omega arith) (p .at + 3) (omega arith)
 
@@ -92,9 +89,9 @@ module _ {e : ℕ} {o : List ℕ} {p : Pen} {rank joins : ℕ} (g : Given e o p 
       sym (ap (λ (x : ℕ). x % 2 ^ p .nb) whole-is ∙ sym (mod-mod-pow y (24 - p .nb) (p .nb))
       ∙ ap (λ (j : ℕ). y % 2 ^ j % 2 ^ p .nb) (sym wide) ∙ ap (λ (x : ℕ). x % 2 ^ p .nb) (low (p .acc) 24 both-lt))
 
-  put-all : Put o p (entryFields (e ∷ [])) (third o p (wholeOf (p .acc) rank joins))
+  put-all : Put o p (pairFields e) (third o p (wholeOf (p .acc) rank joins))
       (record { at = p .at + 3; acc = bothOf rank joins - bothOf rank joins / 2 ^ p .nb * 2 ^ p .nb % 2 ^ 64; nb = p .nb })
-  put-all = byte-end (g .ready) 24 (len e) three (g .ready .small) (cut (bothOf rank joins) (p .nb) (omega (arith, both-lt)) ∙ last)
+  put-all = byte-end (g .ready) 24 (pair-bits e) three (g .ready .small) (cut (bothOf rank joins) (p .nb) (omega (arith, both-lt)) .1 ∙ last)
 
 given : (c : tie.After-joins-of) →
     let a = c .before .before .before .args in
@@ -167,7 +164,7 @@ shl-acc c = search needs
 sub-acc : tie.Need-sub-acc
 sub-acc c =
     let b = both-lt (given c) in
-    cut-le (bothOf (c .before .rank-of .result) (c .joins-of .result)) (c .before .before .before .args .pen .nb) (omega arith)
+    cut (bothOf (c .before .rank-of .result) (c .joins-of .result)) (c .before .before .before .args .pen .nb) (omega arith) .0
 
 add-next : tie.Need-add-next
 add-next c = search needs

@@ -6,7 +6,8 @@ use borrow.Author.Needs.{needs}
 use denote.Ref.{now}
 use Rattle.file.specs.Bits.{field}
 use Rattle.file.specs.Layout.{headerFields}
-use Rattle.file.proofs.Pen.{Left, left-start, next-ready, next-step, left-end}
+use Rattle.file.specs.Pen.{Left}
+use Rattle.file.proofs.Pen.{left-start, next-ready, next-step}
 use Rattle.file.proofs.put.put_header.Statement.{statement}
 use Rattle.file.proofs.put.put_header.Tie as tie
 
@@ -51,7 +52,7 @@ same-length c = search needs
 returns : tie.Need-returns
 returns c =
     let b = c .before .before .before in
-    left-end (next-step (next-step (third (b .before .before .before .before)) (b .before .before .before .put3 .ensures)) (c .before .before .put4 .ensures))
+    next-step (next-step (third (b .before .before .before .before)) (b .before .before .before .put3 .ensures)) (c .before .before .put4 .ensures)
 
 pub put-header-spec : {M : Type 1} → statement M
 put-header-spec =

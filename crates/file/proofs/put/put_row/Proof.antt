@@ -10,8 +10,8 @@ use native.Mathlib.Nat.{add-sub-cancel-left}
 use Rattle.rows.specs.Rooms.{rowAt, part}
 use Rattle.file.specs.Bits.{field}
 use Rattle.file.specs.Layout.{rowFields, entryFields}
-use Rattle.file.specs.Pen.{Ready}
-use Rattle.file.proofs.Pen.{Left, left-start, left-step, next-ready, next-step, left-end}
+use Rattle.file.specs.Pen.{Ready, Left}
+use Rattle.file.proofs.Pen.{left-start, left-step, next-ready, next-step}
 use Rattle.file.proofs.put.put_row.Statement.{statement}
 use Rattle.file.proofs.put.put_row.Tie as tie
 
@@ -78,7 +78,7 @@ same-length c = search needs
 
 returns : tie.Need-returns
 returns c =
-    left-end (left-step (counted (c .before .before .before .before .before .before .before)) _ [] (sym (append-nil _)) (c .before .before .put-entries .ensures))
+    left-step (counted (c .before .before .before .before .before .before .before)) _ [] (sym (append-nil _)) (c .before .before .put-entries .ensures)
 
 pub put-row-spec : {M : Type 1} → statement M
 put-row-spec =

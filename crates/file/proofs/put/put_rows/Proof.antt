@@ -1,26 +1,17 @@
 -- The rows. The invariant: what is written, followed by the rows from v on, is the whole; the row of v stands first among
 -- them. The frames left grow fewer.
-use Prim.Native.Nat.{ℕ, suc, _+_, _-_, _≤_, _<_}
-use mathlib.Core.Path.{_≡_, sym, ap, subst, _∙_}
-use mathlib.Core.List.{List, _++_}
+use Prim.Native.Nat.{_-_, _≤_, _<_}
 use native.Mathlib.Omega.{arith}
 use borrow.Author.Needs.{needs}
 use denote.Ref.{now}
 use native.Mathlib.Numerals.{add-one}
 use native.Mathlib.Nat.{sub-zero}
-use Rattle.file.specs.Layout.{rowFields, rowsFields}
-use Rattle.file.proofs.Pen.{Left, left-start, left-ready, left-step, left-end}
+use Rattle.file.specs.Layout.{rowsFields}
+use Rattle.file.proofs.LayoutLaws.{rows-next, rows-end}
+use Rattle.file.specs.Pen.{Left}
+use Rattle.file.proofs.Pen.{left-start, left-ready, left-step, left-end}
 use Rattle.file.proofs.put.put_rows.Statement.{statement}
 use Rattle.file.proofs.put.put_rows.Tie as tie
-
--- the rows left begin with that of v
-next : (w : ℕ) (labels counts : List ℕ) (n v : ℕ) → v < n →
-    rowsFields w labels counts v (n - v) ≡ rowFields w labels counts v ++ rowsFields w labels counts (v + 1) (n - (v + 1))
-unfolding rowsFields
-next w labels counts n v h =
-    let e : n - v ≡ suc (n - (v + 1)) = omega arith in
-    ap (rowsFields w labels counts v) e
-    ∙ ap (λ (u : ℕ). rowFields w labels counts v ++ rowsFields w labels counts u (n - (v + 1))) (sym (add-one v))
 
 abbrev Inv-loop : tie.InvT-loop
 Inv-loop out₀ n w labels counts tip₀ v₀ out tip v =
@@ -37,7 +28,7 @@ put-row-requires c κs =
     let a = c .before .before .before .before .before .before .args in
     let l = c .before .before .loop in
     let t : l .v < a .n = c .before .loop-test .taken in (
-      left-ready (l .inv .1) _ _ (next (a .w) (now (a .labels)) (now (a .counts)) (a .n) (l .v) t),
+      left-ready (l .inv .1) _ _ (rows-next (a .w) (now (a .labels)) (now (a .counts)) (a .n) (l .v) (add-one (l .v)) t),
       c .before .before .before .before .before .before .pre .1 (l .v) t,
     )
 
@@ -52,18 +43,13 @@ loop-again c =
     let a = c .before .before .before .before .before .before .before .before .before .args in
     let l = c .before .before .before .before .before .loop in
     let t = c .before .before .before .before .loop-test .taken in
-    (omega arith, left-step (l .inv .1) _ _ (next (a .w) (now (a .labels)) (now (a .counts)) (a .n) (l .v) t) (c .before .before .put-row .ensures))
+    (omega arith, left-step (l .inv .1) _ _ (rows-next (a .w) (now (a .labels)) (now (a .counts)) (a .n) (l .v) (add-one (l .v)) t) (c .before .before .put-row .ensures))
 
 same-length : tie.Need-same-length Inv-loop μ-loop
 same-length c = c .before .loop .inv .1 .long
 
 returns : tie.Need-returns Inv-loop μ-loop
-unfolding rowsFields
-returns c =
-    let a = c .before .before .before .before .before .args in
-    let l = c .before .loop in
-    let e : a .n - l .v ≡ 0 = omega arith in
-    left-end (subst (λ (k : ℕ). Left (now (a .out)) (a .pen) (rowsFields (a .w) (now (a .labels)) (now (a .counts)) 0 (a .n)) (l .out) (l .tip) (rowsFields (a .w) (now (a .labels)) (now (a .counts)) (l .v) k)) e (l .inv .1))
+returns c = left-end (c .before .loop .inv .1) (rows-end _ _ _ _ _ (c .loop-test .left))
 
 pub put-rows-spec : {M : Type 1} → statement M
 put-rows-spec =

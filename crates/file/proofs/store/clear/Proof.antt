@@ -1,22 +1,20 @@
 -- The loop of `clear`: filling the places from `at` on with 0 gives what filling all of them gives. The places left fall.
-use Prim.Native.Nat.{_-_, _≤_}
-use mathlib.Core.Path.{_≡_, refl, sym, _∙_}
+use Prim.Native.Nat.{_-_}
+use mathlib.Core.Path.{refl}
 use native.Mathlib.Omega.{arith}
-use lib.ListN.{length, length-set}
-use Rattle.file.specs.Stores.{filled, nought}
-use Rattle.file.proofs.Stores.{filled-on, filled-end}
+use Rattle.file.specs.Stores.{nought}
+use Rattle.file.proofs.Stores.{FillLeft, fill-none, fill-more, fill-all}
 use Rattle.file.proofs.store.clear.Statement.{statement}
 use Rattle.file.proofs.store.clear.Tie as tie
 
 abbrev Inv-loop : tie.InvT-loop
-Inv-loop labels₀ base end at₀ labels at = (length labels ≡ length labels₀) × (base ≤ at) × (at ≤ end) × (filled nought
-    labels at (end - at) ≡ filled nought labels₀ base (end - base))
+Inv-loop labels₀ base end at₀ labels at = FillLeft nought labels₀ base end labels at
 
 abbrev μ-loop : tie.MeasureT-loop
 μ-loop labels₀ base end at₀ labels at = end - at
 
 loop-holds : tie.Need-loop-holds Inv-loop μ-loop
-loop-holds c = (refl, omega arith, omega arith, refl)
+loop-holds c = fill-none _ _ _ _ (omega arith)
 
 mul-labels : tie.Need-mul-labels Inv-loop μ-loop
 mul-labels c = omega arith
@@ -32,18 +30,13 @@ loop-less c = omega arith
 
 loop-again : tie.Need-loop-again Inv-loop μ-loop
 unfolding nought
-loop-again c = (
-  length-set (c .before .loop .labels) (c .before .loop .at) 0 ∙ c .before .loop .inv .0,
-  omega arith,
-  omega arith,
-  filled-on nought _ _ _ (c .loop-test .taken) refl refl ∙ c .before .loop .inv .3,
-)
+loop-again c = fill-more (c .before .loop .inv) (c .loop-test .taken) refl refl
 
 same-length : tie.Need-same-length Inv-loop μ-loop
-same-length c = c .before .loop .inv .0
+same-length c = c .before .loop .inv .long
 
 returns : tie.Need-returns Inv-loop μ-loop
-returns c = sym (filled-end nought _ _ _ (omega arith)) ∙ c .before .loop .inv .3
+returns c = fill-all (c .before .loop .inv) (omega arith)
 
 pub clear-spec : {M : Type 1} → statement M
 clear-spec =

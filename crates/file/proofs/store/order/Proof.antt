@@ -1,26 +1,24 @@
 -- The loop of `order`: filling the places from rank r on gives what filling all of them gives. The ranks left fall.
-use Prim.Native.Nat.{_+_, _-_, _*_, _≤_}
-use mathlib.Core.Path.{_≡_, refl, sym, ap, _∙_}
+use Prim.Native.Nat.{_+_, _-_, _*_}
+use mathlib.Core.Path.{refl, ap, _∙_}
 use native.Mathlib.Omega.{arith}
-use lib.ListN.{length, length-set}
 use native.Mathlib.Nat.{sub-zero}
 use Rattle.file.specs.Bits.{byteLen}
 use Rattle.file.specs.Reader.{frameAt}
 use Rattle.file.specs.Stores.{filled}
-use Rattle.file.proofs.Stores.{filled-on, filled-end}
+use Rattle.file.proofs.Stores.{FillLeft, fill-none, fill-more, fill-all}
 use Rattle.file.proofs.Bits.{field-lt}
 use Rattle.file.proofs.store.order.Statement.{statement}
 use Rattle.file.proofs.store.order.Tie as tie
 
 abbrev Inv-loop : tie.InvT-loop
-Inv-loop bytes n order₀ r₀ order r = (length order ≡ length order₀) × (r ≤ n) × (filled (frameAt bytes) order r (n - r) ≡
-    filled (frameAt bytes) order₀ 0 n)
+Inv-loop bytes n order₀ r₀ order r = FillLeft (frameAt bytes) order₀ 0 n order r
 
 abbrev μ-loop : tie.MeasureT-loop
 μ-loop bytes n order₀ r₀ order r = n - r
 
 loop-holds : tie.Need-loop-holds Inv-loop μ-loop
-loop-holds c = (refl, omega arith, ap (filled (frameAt _) _ 0) (sub-zero (c .before .before .args .n)))
+loop-holds c = fill-none _ _ _ _ (omega arith)
 
 mul-p : tie.Need-mul-p Inv-loop μ-loop
 mul-p c = omega arith
@@ -31,11 +29,7 @@ add-p c = omega arith
 get-requires : tie.Need-get-requires Inv-loop μ-loop
 unfolding byteLen
 get-requires c κs =
-    record {
-      narrow = omega arith;
-      near = omega arith;
-      there = omega (arith, c .before .before .before .before .pre .there);
-    }
+    (record { narrow = omega arith; near = omega arith }, omega (arith, c .before .before .before .before .pre .there))
 
 cast-order : tie.Need-cast-order Inv-loop μ-loop
 cast-order c =
@@ -60,18 +54,13 @@ loop-less c = omega arith
 
 loop-again : tie.Need-loop-again Inv-loop μ-loop
 unfolding frameAt
-loop-again c = (
-  length-set (c .before .before .loop .order) (c .before .before .loop .r) (c .get .result) ∙
-      c .before .before .loop .inv .0,
-  omega arith,
-  filled-on (frameAt _) _ _ _ (c .before .loop-test .taken) refl (c .get .ensures) ∙ c .before .before .loop .inv .2,
-)
+loop-again c = fill-more (c .before .before .loop .inv) (c .before .loop-test .taken) refl (c .get .ensures)
 
 same-length : tie.Need-same-length Inv-loop μ-loop
-same-length c = c .before .loop .inv .0
+same-length c = c .before .loop .inv .long
 
 returns : tie.Need-returns Inv-loop μ-loop
-returns c = sym (filled-end (frameAt _) _ _ _ (omega arith)) ∙ c .before .loop .inv .2
+returns c = fill-all (c .before .loop .inv) (omega arith) ∙ ap (filled (frameAt _) _ 0) (sub-zero _)
 
 pub order-spec : {M : Type 1} → statement M
 order-spec =

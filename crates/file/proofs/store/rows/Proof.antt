@@ -1,7 +1,7 @@
 -- The loop of `rows`: filling the rows and counts from frame v on gives what filling all of them gives (`RowsLeft`). A row
 -- stored keeps that for the next frame; the frames left fall.
 use Prim.Native.Nat.{_-_}
-use mathlib.Core.Path.{refl, sym, _∙_}
+use mathlib.Core.Path.{refl}
 use native.Mathlib.Omega.{arith}
 use lib.ListN.{length}
 use Rattle.file.specs.Bits.{byteLen}
@@ -25,14 +25,14 @@ add-p : tie.Need-add-p Inv-loop μ-loop
 add-p c = omega arith
 
 loop-holds : tie.Need-loop-holds Inv-loop μ-loop
-loop-holds c = rows-none _ _ _ _ _ (c .before .before .before .pre .room) (c .before .before .before .pre .counted)
+loop-holds c = rows-none _ _ _ _ _
 
 get-requires : tie.Need-get-requires Inv-loop μ-loop
 unfolding byteLen
 get-requires c κs =
     let l = c .before in
     let row = next-row (l .before .before .before .before .pre) (l .loop .inv) (c .loop-test .taken) refl in
-    record { narrow = omega arith; near = omega (arith, row .near); there = omega (arith, row .there) }
+    (record { narrow = omega arith; near = omega (arith, row .near) }, omega (arith, row .there))
 
 cast-counts : tie.Need-cast-counts Inv-loop μ-loop
 cast-counts c =
@@ -90,10 +90,10 @@ loop-again c =
     next-left (l .before .before .before .before .pre) (l .loop .inv) (g .before .loop-test .taken) _ (g .get .ensures) (c .before .before .row .ensures)
 
 same-length : tie.Need-same-length Inv-loop μ-loop
-same-length c = c .before .loop .inv .labelled ∙ sym (c .before .before .before .before .before .pre .room)
+same-length c = c .before .loop .inv .labelled .long
 
 same-length-2 : tie.Need-same-length-2 Inv-loop μ-loop
-same-length-2 c = c .before .loop .inv .counted ∙ sym (c .before .before .before .before .before .pre .counted)
+same-length-2 c = c .before .loop .inv .counted .long
 
 returns : tie.Need-returns Inv-loop μ-loop
 returns c = rows-stored (c .before .loop .inv) (omega arith)

@@ -7,18 +7,17 @@ use native.Mathlib.Omega.{arith}
 use borrow.Author.Needs.{needs}
 use denote.Ref.{now}
 use lib.ListN.{length}
-use native.Mathlib.Nat.{zero-add}
 use mathlib.Core.List.{append-nil}
 use lib.Seq.{take-all}
 use Rattle.file.specs.Bits.{Field, Bytes, val, bitLen, num, bytesOf, byteLen, padLen, packed}
 use Rattle.file.specs.Layout.{headerFields, orderFields, rowsFields, fileFields, fileOf}
-use Rattle.file.specs.Pen.{penBits, penNum, Put, Closed}
+use Rattle.file.specs.Pen.{penBits, penNum, Left, Put, Closed}
 use Rattle.file.specs.Writer.{Fit}
 use Rattle.file.specs.declared.put.Pen.{Pen}
 use Rattle.file.proofs.Bits.{val-bytes}
 use Rattle.file.proofs.Packed.{packed-length, pad-len}
 use Rattle.file.proofs.Fit.{fit-legal, fit-lies}
-use Rattle.file.proofs.Pen.{Left, left-start, left-ready, left-step, left-end}
+use Rattle.file.proofs.Pen.{left-start, left-ready, left-step}
 use Rattle.file.proofs.writer.fill.Statement.{statement}
 use Rattle.file.proofs.writer.fill.Tie as tie
 
@@ -40,9 +39,9 @@ begun o n k w O labels counts f e =
 
 -- all fields put, the last byte filled up: the stretch is the file
 ended : (o o1 o2 : List ℕ) (p : Pen) (fs : List Field) → length o ≡ length (packed fs) → Put o empty fs o1 p → Closed o1 p o2 → Bytes o2 → o2 ≡ packed fs
-unfolding packed penNum val
+unfolding packed penNum val bitLen num
 ended o o1 o2 p fs e u d b =
-    let bits : penBits p ≡ bitLen fs = u .bits ∙ zero-add (bitLen fs) in
+    let bits : penBits p ≡ bitLen fs = omega (arith, u .bits) in
     let long : length o2 ≡ byteLen (bitLen fs) = d .long ∙ u .long ∙ e ∙ packed-length fs in
     let full : length o2 ≤ byteLen (penBits p) = omega (arith, ap byteLen bits) in
     let whole : val o2 ≡ num 0 fs * 2 ^ padLen (bitLen fs) =
@@ -74,7 +73,7 @@ finished c = left-step (ordered (c .before .before .before .before)) _ [] (sym (
 put-header-requires : tie.Need-put-header-requires
 put-header-requires c κs =
     let s = c .before .before .before .before .before in
-    (left-ready (begun _ _ _ _ _ _ _ (s .pre .0) (s .pre .1)) _ _ refl, s .pre .0 .rooms .some-frames)
+    (left-ready (begun _ _ _ _ _ _ _ (s .pre .0) (s .pre .1)) _ _ refl, s .pre .0 .rooms .sizes .some-frames)
 
 put-order-requires : tie.Need-put-order-requires
 put-order-requires c κs = left-ready (headed (c .before .before .before)) _ _ refl
@@ -96,7 +95,7 @@ unfolding fileOf
 returns c =
     let d = c .before .before .before .before .before .before in
     let s = d .before .before .before .before .before .before .before .before .before .before .before .before .before .before in
-    ended _ _ _ _ _ (s .pre .1) (left-end (finished d)) (c .before .before .close .ensures) (λ i. c .slice-known5 .given i .fits)
+    ended _ _ _ _ _ (s .pre .1) (finished d) (c .before .before .close .ensures) (λ i. c .slice-known5 .given i .fits)
 
 pub fill-spec : {M : Type 1} → statement M
 fill-spec =

@@ -4,18 +4,18 @@ use Prim.Native.Nat.{_-_}
 use mathlib.Core.Path.{sym, _∙_}
 use native.Mathlib.Omega.{arith}
 use borrow.Author.Needs.{needs}
-use Rattle.links.proofs.Order.{Seen, seen-first, seen-stop, seen-twice, seen-on, seen-end, rank-out}
+use Rattle.links.proofs.Order.{Passed, passed-first, passed-stop, passed-twice, passed-on, passed-end, rank-out}
 use Rattle.links.proofs.once.each_once.Statement.{statement}
 use Rattle.links.proofs.once.each_once.Tie as tie
 
 abbrev Inv-loop : tie.InvT-loop
-Inv-loop n order seen₀ r₀ seen r = Seen n order seen r
+Inv-loop n order seen₀ r₀ seen r = Passed n order seen r
 
 abbrev μ-loop : tie.MeasureT-loop
 μ-loop n order seen₀ r₀ seen r = n - r
 
 loop-holds : tie.Need-loop-holds Inv-loop μ-loop
-loop-holds c = seen-first _ _
+loop-holds c = passed-first _ _
 
 mul-v : tie.Need-mul-v Inv-loop μ-loop
 mul-v c = omega arith
@@ -32,7 +32,7 @@ refused-requires c κs = search needs
 returns : tie.Need-returns Inv-loop μ-loop
 returns c =
     let at = c .before .before .before .before in
-    c .refused .ensures ∙ sym (seen-stop (at .loop .inv) (c .before .before .before .loop-test .taken) (rank-out _ _ _ (omega arith)))
+    c .refused .ensures ∙ sym (passed-stop (at .loop .inv) (c .before .before .before .loop-test .taken) (rank-out _ _ _ (omega arith)))
 
 array-read-if2 : tie.Need-array-read-if2 Inv-loop μ-loop
 array-read-if2 c = omega arith
@@ -44,7 +44,7 @@ returns-2 : tie.Need-returns-2 Inv-loop μ-loop
 returns-2 c =
     let at = c .before .before .before .before .before in
     c .refused2 .ensures
-    ∙ sym (seen-twice (at .loop .inv) (omega arith) (omega arith) (c .before .before .if1 .left) (c .before .if2 .taken))
+    ∙ sym (passed-twice (at .loop .inv) (omega arith) (omega arith) (c .before .before .if1 .left) (c .before .if2 .taken))
 
 array-write-seen : tie.Need-array-write-seen Inv-loop μ-loop
 array-write-seen c = omega arith
@@ -58,10 +58,10 @@ loop-less c = omega arith
 loop-again : tie.Need-loop-again Inv-loop μ-loop
 loop-again c =
     let at = c .before .before .before .before in
-    seen-on (at .loop .inv) (omega arith) (omega arith) (c .before .if1 .left) (c .if2 .left)
+    passed-on (at .loop .inv) (omega arith) (omega arith) (c .before .if1 .left) (c .if2 .left)
 
 returns-3 : tie.Need-returns-3 Inv-loop μ-loop
-returns-3 c = sym (seen-end (c .before .loop .inv) (c .loop-test .left))
+returns-3 c = sym (passed-end (c .before .loop .inv) (c .loop-test .left))
 
 pub each-once-spec : {M : Type 1} → statement M
 each-once-spec =

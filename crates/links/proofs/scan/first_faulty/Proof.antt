@@ -1,5 +1,5 @@
 -- `links::scan::first_faulty` meets its contract. Inner invariant: whether v's list is faulty is decided from `at` on, and
--- `floor` is the least that may stand there; end - at falls. Outer: the lowest faulty frame lies from v on; n - v falls. A
+-- `floor` is the least frame that may stand there; end - at falls. Outer: the lowest faulty frame lies from v on; n - v falls. A
 -- faulty link makes v that frame.
 use Prim.Native.Nat.{ℕ, _+_, _-_}
 use mathlib.Core.Path.{sym}
@@ -33,7 +33,7 @@ slice-aggregate-set-cursors : tie.Need-slice-aggregate-set-cursors Inv-loop μ-l
 slice-aggregate-set-cursors c = sym (length-replicate {A = ℕ} 4096 0)
 
 set-cursors-requires : tie.Need-set-cursors-requires Inv-loop μ-loop Inv-frames μ-frames
-set-cursors-requires c κs = (c .before .before .before .pre .frames, c .before .before .before .pre .long, length-replicate {A = ℕ} 4096 0)
+set-cursors-requires c κs = (c .before .before .before .pre .fits .frames, c .before .before .before .pre .fits .long, length-replicate {A = ℕ} 4096 0)
 
 frames-holds : tie.Need-frames-holds Inv-loop μ-loop Inv-frames μ-frames
 frames-holds c = frames-first _ _ (c .before .set-cursors .ensures)
@@ -42,10 +42,10 @@ add-next : tie.Need-add-next Inv-loop μ-loop Inv-frames μ-frames
 add-next c = omega arith
 
 mul-end : tie.Need-mul-end Inv-loop μ-loop Inv-frames μ-frames
-mul-end c = omega (arith, c .before .before .before .before .before .before .before .pre .frames)
+mul-end c = omega (arith, c .before .before .before .before .before .before .before .pre .fits .frames)
 
 shared-slice-read-end : tie.Need-shared-slice-read-end Inv-loop μ-loop Inv-frames μ-frames
-shared-slice-read-end c = omega (arith, c .before .before .before .before .before .before .before .before .pre .long)
+shared-slice-read-end c = omega (arith, c .before .before .before .before .before .before .before .before .pre .fits .long)
 
 cast-end : tie.Need-cast-end Inv-loop μ-loop Inv-frames μ-frames
 cast-end c = omega (arith, c .shared-slice-known3 .given (c .before .before .frames .v + 1))
@@ -54,7 +54,7 @@ mul-at : tie.Need-mul-at Inv-loop μ-loop Inv-frames μ-frames
 mul-at c = omega arith
 
 shared-slice-read-at : tie.Need-shared-slice-read-at Inv-loop μ-loop Inv-frames μ-frames
-shared-slice-read-at c = omega (arith, c .before .before .before .before .before .before .before .before .before .pre .long)
+shared-slice-read-at c = omega (arith, c .before .before .before .before .before .before .before .before .before .pre .fits .long)
 
 cast-at : tie.Need-cast-at Inv-loop μ-loop Inv-frames μ-frames
 cast-at c = omega (arith, c .shared-slice-known4 .given (c .before .before .before .frames .v))

@@ -5,7 +5,8 @@ use borrow.Author.Needs.{needs}
 use borrow.Author.Tests.{eq-eqb, ne-eqb}
 use Rattle.basics.proofs.Laws.{both-true}
 use Rattle.refusal.proofs.Laws.{test-fine, test-refused}
-use Rattle.links.proofs.Links.{frames-held, sizes-in, sizes-out}
+use Rattle.refusal.proofs.SizeLaws.{frames-held}
+use Rattle.links.proofs.Links.{sizes-in, sizes-out}
 use Rattle.links.proofs.sizes.tests.Statement.{statement}
 use Rattle.links.proofs.sizes.tests.Tie as tie
 

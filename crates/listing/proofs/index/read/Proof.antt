@@ -6,7 +6,7 @@ use Rattle.file.specs.declared.Opened.{Opened}
 use Rattle.file.specs.Reader.{told}
 use Rattle.listing.specs.Lines.{refusedText}
 use Rattle.listing.proofs.TextLaws.{put-as}
-use Rattle.listing.proofs.IndexLaws.{read-index, read-refused}
+use Rattle.listing.proofs.IndexLaws.{openedText, read-found}
 use Rattle.listing.proofs.index.read.Statement.{statement}
 use Rattle.listing.proofs.index.read.Tie as tie
 
@@ -38,14 +38,14 @@ same-length-4 : tie.Need-same-length-4
 same-length-4 c = search needs
 
 returns : tie.Need-returns
-unfolding told
+unfolding told openedText
 returns c =
     let r = c .before .before .refused in
     let m = c .before .before .before in
     let answer = m .before .before .enum-told .given .1 in
     let call = m .before .before .before .before .before .before .before .before .before .before .read in (
       put-as
-          (ap refusedText (m .number-of .ensures ∙ ap (λ (a : Opened). told a .number) answer) ∙ read-refused _ _ _ _ (call .ensures .0) answer)
+          (ap refusedText (m .number-of .ensures ∙ ap (λ (a : Opened). told a .number) answer) ∙ read-found _ _ _ _ (call .ensures .0) answer)
           (r .ensures .0),
       omega (arith, r .ensures .1),
     )
@@ -66,11 +66,12 @@ same-length-8 : tie.Need-same-length-8
 same-length-8 c = search needs
 
 returns-2 : tie.Need-returns-2
+unfolding openedText
 returns-2 c =
     let s = c .before .before .show in
     let o = c .before .before .before .before .before .before .before .before in
     let call = o .before .before .before .before .before .before .before .before .read in
-    (put-as (read-index _ _ _ _ (call .ensures .0) (o .opened .given .1)) (s .ensures .0), s .ensures .1)
+    (put-as (read-found _ _ _ _ (call .ensures .0) (o .opened .given .1)) (s .ensures .0), s .ensures .1)
 
 pub read-spec : {M : Type 1} → statement M
 read-spec =

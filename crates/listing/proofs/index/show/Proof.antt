@@ -1,16 +1,14 @@
 -- An answered spread says that every row is sound, so that the lines can be put behind the first line.
-use Prim.Native.Nat.{ℕ}
 use native.Mathlib.Omega.{arith}
-use mathlib.Core.Path.{_≡_, sym, ap, _∙_}
-use mathlib.Core.List.{_++_}
-use lib.ListN.{length}
+use mathlib.Core.Path.{_≡_, sym, _∙_}
 use borrow.Author.Needs.{needs}
 use Rattle.rows.specs.declared.spread.SpreadAnswer.{SpreadAnswer}
 use Rattle.rows.specs.Spread.{spreadOf}
 use Rattle.rows.proofs.RoomLaws.{total-sum}
-use Rattle.listing.specs.Lines.{WIDTH, headText, linesText}
-use Rattle.listing.proofs.TextLaws.{put-more, put-as}
-use Rattle.listing.proofs.IndexLaws.{shown-by, text-shown, text-refused}
+use Rattle.listing.specs.Lines.{WIDTH}
+use Rattle.listing.specs.Listing.{indexText}
+use Rattle.listing.proofs.TextLaws.{put-more}
+use Rattle.listing.proofs.IndexLaws.{shown-by}
 use Rattle.listing.proofs.index.show.Statement.{statement}
 use Rattle.listing.proofs.index.show.Tie as tie
 
@@ -30,10 +28,11 @@ same-length : tie.Need-same-length
 same-length c = search needs
 
 returns : tie.Need-returns
+unfolding indexText
 returns c =
     let r = c .before .before .refused in
     let told = c .before .before .before .before in
-    (put-as (text-refused _ _ _ _ _ (sym (told .before .before .spread .ensures .0) ∙ told .enum-told .given .1)) (r .ensures .0), omega (arith, r .ensures .1))
+    (rw (sym (told .before .before .spread .ensures .0) ∙ told .enum-told .given .1) (r .ensures .0), omega (arith, r .ensures .1))
 
 total-requires : tie.Need-total-requires
 total-requires c κs = search needs
@@ -58,15 +57,13 @@ same-length-2 : tie.Need-same-length-2
 same-length-2 c = search needs
 
 returns-2 : tie.Need-returns-2
+unfolding indexText
 returns-2 c =
     let l = c .before .before .lines in
     let h = c .before .before .before .before .before .before in
     let k = h .before .before .before in
-    let s = k .before .before .before .before .before .before .before .before in
-    let a = s .args in (
-      put-as
-          (ap (λ (m : ℕ). headText (a .n) (a .k) m (k .before .answer .given .0 .0) ++ linesText WIDTH (a .order .now) (a .labels .now) (a .counts .now) 0 (length (a .counts .now))) (h .before .before .total .ensures .0 ∙ total-sum _ (omega (arith, s .pre .0 .frames)))
-          ∙ text-shown _ _ _ _ _ (spread-is k))
+    let s = k .before .before .before .before .before .before .before .before in (
+      rw (spread-is k, ← total-sum (s .args .counts .now) (omega (arith, s .pre .0 .frames)), ← h .before .before .total .ensures .0)
           (put-more (h .head .ensures .0) (l .ensures .0)),
       omega (arith, l .ensures .1, h .head .ensures .1, s .pre .0 .frames),
     )

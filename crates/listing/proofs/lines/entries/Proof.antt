@@ -1,25 +1,24 @@
 -- The entries before place i are put, each in at most 42 bytes. A turn puts entry i behind them. What is left of the row shrinks.
-use Prim.Native.Nat.{ℕ, _+_, _-_, _*_, _≤_}
+use Prim.Native.Nat.{_+_, _-_, _*_, _≤_}
 use native.Mathlib.Omega.{arith}
-use mathlib.Core.Path.{ap}
-use lib.ListN.{length, take}
-use lib.Seq.{take-all}
+use mathlib.Core.Path.{_≡_, ap}
+use lib.ListN.{length, getD}
 use Rattle.listing.specs.Text.{Put}
-use Rattle.listing.specs.Lines.{entriesText}
+use Rattle.listing.specs.Lines.{texts, entryText}
 use Rattle.listing.proofs.TextLaws.{put-none, put-as}
-use Rattle.listing.proofs.LineLaws.{put-entry}
+use Rattle.listing.proofs.LineLaws.{put-text}
 use Rattle.listing.proofs.lines.entries.Statement.{statement}
 use Rattle.listing.proofs.lines.entries.Tie as tie
 
 abbrev Inv-loop : tie.InvT-loop
 Inv-loop out₀ at order row end₀ i₀ out end i =
-    (i ≤ length row) × Put out₀ at (entriesText order (take i row)) out end × (end ≤ at + 42 * i)
+    (i ≤ length row) × Put out₀ at (texts (λ j. entryText order (getD row j 0)) i) out end × (end ≤ at + 42 * i)
 
 abbrev μ-loop : tie.MeasureT-loop
 μ-loop out₀ at order row end₀ i₀ out end i = length row - i
 
 loop-holds : tie.Need-loop-holds Inv-loop μ-loop
-unfolding entriesText
+unfolding texts
 loop-holds c = (omega arith, put-none _ _, omega arith)
 
 mul-e : tie.Need-mul-e Inv-loop μ-loop
@@ -43,10 +42,9 @@ loop-less c = omega arith
 loop-again : tie.Need-loop-again Inv-loop μ-loop
 loop-again c =
     let e = c .before .before .entry in
-    let l = c .before .before .before .before .before .before in
-    let a = l .before .before .before .before .args in (
+    let l = c .before .before .before .before .before .before in (
       omega arith,
-      put-entry (a .order .now) (a .row .now) (l .loop .i) (omega arith) (l .loop .inv .1) (e .ensures .0),
+      put-text _ (l .loop .i) (l .loop .inv .1) (e .ensures .0),
       omega (arith, e .ensures .1, l .loop .inv .2),
     )
 
@@ -56,10 +54,8 @@ same-length c = c .before .loop .inv .1 .long
 returns : tie.Need-returns Inv-loop μ-loop
 returns c =
     let l = c .before .loop in
-    let a = c .before .before .before .before .before .args in (
-      put-as (ap (entriesText (a .order .now)) (take-all (l .i) (a .row .now) (omega arith))) (l .inv .1),
-      omega arith,
-    )
+    let all : l .i ≡ length (c .before .before .before .before .before .args .row .now) = omega arith in
+    (put-as (ap (texts _) all) (l .inv .1), omega arith)
 
 pub entries-spec : {M : Type 1} → statement M
 entries-spec =

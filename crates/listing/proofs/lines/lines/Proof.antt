@@ -9,23 +9,23 @@ use denote.Ref.{now}
 use Rattle.rows.specs.Entry.{rankOf}
 use Rattle.rows.specs.Rooms.{rowAt}
 use Rattle.listing.specs.Text.{Put}
-use Rattle.listing.specs.Lines.{WIDTH, lineText, linesText}
+use Rattle.listing.specs.Lines.{WIDTH, texts, lineText, linesText}
 use Rattle.listing.proofs.TextLaws.{put-none, put-as}
-use Rattle.listing.proofs.LineLaws.{put-line, shown-row, shown-few, shown-ranks}
+use Rattle.listing.proofs.LineLaws.{put-text, shown-row, shown-few, shown-ranks}
 use Rattle.listing.proofs.lines.lines.Statement.{statement}
 use Rattle.listing.proofs.lines.lines.Tie as tie
 
 abbrev Inv-loop : tie.InvT-loop
 Inv-loop out₀ at order labels counts end₀ v₀ out end v =
     (v ≤ length counts)
-    × Put out₀ at (linesText WIDTH order labels counts 0 v) out end
+    × Put out₀ at (linesText WIDTH order labels counts v) out end
     × (end ≤ at + 1365 * v)
 
 abbrev μ-loop : tie.MeasureT-loop
 μ-loop out₀ at order labels counts end₀ v₀ out end v = length counts - v
 
 loop-holds : tie.Need-loop-holds Inv-loop μ-loop
-unfolding linesText
+unfolding texts
 loop-holds c = (omega arith, put-none _ _, omega arith)
 
 mul-count : tie.Need-mul-count Inv-loop μ-loop
@@ -76,7 +76,7 @@ loop-again c =
     let inside : l .v < length (a .counts .now) = r .before .before .loop-test .taken in
     let same = row-is r in (
       omega arith,
-      put-line (a .order .now) (a .labels .now) (a .counts .now) (l .v) (l .inv .1) (put-as (ap (lineText (a .order .now) (l .v)) same) (e .ensures .0)),
+      put-text _ (l .v) (l .inv .1) (put-as (ap (lineText (a .order .now) (l .v)) same) (e .ensures .0)),
       omega (arith, ap length same, shown-few (s .pre .0) (l .v) inside, e .ensures .1, l .inv .2),
     )
 
@@ -86,9 +86,8 @@ same-length c = c .before .loop .inv .1 .long
 returns : tie.Need-returns Inv-loop μ-loop
 returns c =
     let l = c .before .loop in
-    let a = c .before .before .before .before .before .before .args in
-    let all : l .v ≡ length (a .counts .now) = omega arith in
-    (put-as (ap (linesText WIDTH (a .order .now) (a .labels .now) (a .counts .now) 0) all) (l .inv .1), omega arith)
+    let all : l .v ≡ length (c .before .before .before .before .before .before .args .counts .now) = omega arith in
+    (put-as (ap (texts _) all) (l .inv .1), omega arith)
 
 pub lines-spec : {M : Type 1} → statement M
 lines-spec =

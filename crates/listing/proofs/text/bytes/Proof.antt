@@ -1,6 +1,6 @@
 -- The first i bytes of the text are put, and the room has kept its length. A turn puts one byte more behind them. What is
 -- left of the text shrinks.
-use Prim.Native.Nat.{ℕ, _+_, _-_, _≤_, _<_}
+use Prim.Native.Nat.{_+_, _-_, _≤_}
 use native.Mathlib.Nat.{add-zero}
 use native.Mathlib.Omega.{arith}
 use lib.ListN.{length, take}

@@ -1,6 +1,5 @@
 -- The rooms' refusal stands; behind it the lowest unsound frame decides.
-use Prim.Native.Nat.{ℕ}
-use mathlib.Core.Path.{_≡_, refl, sym, _∙_}
+use mathlib.Core.Path.{sym, _∙_}
 use borrow.Author.Needs.{needs}
 use denote.Ref.{now}
 use Rattle.rows.specs.Rooms.{Rooms}

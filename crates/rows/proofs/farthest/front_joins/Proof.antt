@@ -1,11 +1,11 @@
 -- A row without entries has no front; of any other it is the first place, whose joins count only at rank 0.
-use Prim.Native.Nat.{ℕ}
 use mathlib.Core.Path.{sym, _∙_}
 use native.Mathlib.Omega.{arith}
 use borrow.Author.Needs.{needs}
 use borrow.Author.Tests.{eq-eqb, ne-eqb}
 use denote.Ref.{now}
 use Rattle.basics.proofs.Laws.{cond-true, cond-false}
+use Rattle.rows.specs.Spread.{joinsAtZero}
 use Rattle.rows.proofs.SpreadLaws.{no-front, front-entry}
 use Rattle.rows.proofs.farthest.front_joins.Statement.{statement}
 use Rattle.rows.proofs.farthest.front_joins.Tie as tie
@@ -34,6 +34,7 @@ rank-of-requires : tie.Need-rank-of-requires
 rank-of-requires c κs = search needs
 
 returns-2 : tie.Need-returns-2
+unfolding joinsAtZero
 returns-2 c =
     let s = c .before .before .before .before .before .before .before in
     let a = s .args in
@@ -45,6 +46,7 @@ joins-of-requires : tie.Need-joins-of-requires
 joins-of-requires c κs = search needs
 
 returns-3 : tie.Need-returns-3
+unfolding joinsAtZero
 returns-3 c =
     let s = c .before .before .before .before .before .before .before .before in
     let a = s .args in

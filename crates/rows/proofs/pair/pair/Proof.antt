@@ -1,10 +1,10 @@
 -- A refusal of the tests stands; behind fine tests both rows are fit for the merge, whose best meeting is the answer.
-use mathlib.Core.Path.{_≡_, sym, ap, _∙_}
+use mathlib.Core.Path.{_≡_, sym, _∙_}
 use borrow.Author.Needs.{needs}
 use denote.Ref.{now}
+use Rattle.basics.proofs.Laws.{read-off}
 use Rattle.refusal.specs.declared.Verdict.the-variants.{Fine}
 use Rattle.rows.specs.Pair.{pairTests, answered, told}
-use Rattle.rows.specs.declared.pair.Answer.{Answer}
 use Rattle.rows.proofs.PairLaws.{pair-asked, row-in, answer-refused, answer-fine}
 use Rattle.rows.proofs.pair.pair.Statement.{statement}
 use Rattle.rows.proofs.pair.pair.Tie as tie
@@ -16,10 +16,6 @@ fine : (c : tie.After-enum-told)
     ≡ Fine
 fine c = sym (c .before .before .check-pair .ensures) ∙ c .enum-told .given .1
 
--- the answer, and its numbers
-said : {a b : Answer} → a ≡ b → (a ≡ b) × (told a ≡ told b)
-said e = (e, ap told e)
-
 check-pair-requires : tie.Need-check-pair-requires
 check-pair-requires c κs = search needs
 
@@ -29,7 +25,7 @@ enum-known-asked c = search needs
 returns : tie.Need-returns
 returns c =
     let a = c .before .before .before .before .before .before .args in
-    said (sym
+    read-off told (sym
     (answer-refused (a .n) (a .w) (now (a .labels)) (now (a .counts)) (a .s) (a .t)
     (sym (c .before .before .before .check-pair .ensures) ∙ c .before .asked .given .1)))
 
@@ -52,7 +48,7 @@ returns-2 : tie.Need-returns-2
 unfolding answered
 returns-2 c =
     let a = c .before .before .before .before .before .before .before .before .args in
-    said (sym
+    read-off told (sym
     (answer-fine (a .n) (a .w) (now (a .labels)) (now (a .counts)) (a .s) (a .t) (fine (c .before .before .before))
     (sym (c .enum-told2 .given .1) ∙ c .before .before .meet .ensures)))
 
@@ -60,7 +56,7 @@ returns-3 : tie.Need-returns-3
 unfolding answered
 returns-3 c =
     let a = c .before .before .before .before .before .before .before .before .before .args in
-    said (sym
+    read-off told (sym
     (answer-fine (a .n) (a .w) (now (a .labels)) (now (a .counts)) (a .s) (a .t) (fine (c .before .before .before .before))
     (sym (c .before .best .given .1) ∙ c .before .before .before .meet .ensures)))
 

@@ -1,5 +1,5 @@
 -- The tests together are `inRoom`.
-use Prim.Native.Nat.{ℕ, _+_, _-_, _*_, _≤_, _<_}
+use Prim.Native.Nat.{ℕ, _-_, _*_}
 use mathlib.Core.Path.{sym}
 use mathlib.Core.List.{List}
 use native.Mathlib.Nat.{mul-le-mul}

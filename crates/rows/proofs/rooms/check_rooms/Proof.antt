@@ -1,14 +1,13 @@
 -- Each return is one of the room tests' outcomes; the product is formed where n and W are known to be small.
-use Prim.Native.Nat.{ℕ, _≤_, _<_}
-use mathlib.Core.Path.{_≡_, sym, _∙_}
-use mathlib.Core.Bool.{true}
+use mathlib.Core.Path.{sym, _∙_}
 use native.Mathlib.Nat.{mul-le-mul}
 use native.Mathlib.Omega.{arith}
 use borrow.Author.Needs.{needs}
 use borrow.Author.Tests.{not-true, not-false}
 use denote.Ref.{now}
-use Rattle.rows.specs.Rooms.{sizesFit}
-use Rattle.rows.proofs.RoomLaws.{Sizes, sizes-held, size-refused, length-refused, rooms-fine}
+use Rattle.refusal.specs.Sizes.{Sizes}
+use Rattle.refusal.proofs.SizeLaws.{sizes-held}
+use Rattle.rows.proofs.RoomLaws.{size-refused, length-refused, rooms-fine}
 use Rattle.rows.proofs.rooms.check_rooms.Statement.{statement}
 use Rattle.rows.proofs.rooms.check_rooms.Tie as tie
 
@@ -61,17 +60,7 @@ returns-3 c =
 
 returns-4 : tie.Need-returns-4
 returns-4 c =
-    let s = sized (c .before .before) in
-    sym
-    (rooms-fine
-    record {
-      some-frames = s .some-frames;
-      frames = s .frames;
-      some-width = s .some-width;
-      width = s .width;
-      places = c .before .if2 .left;
-      each = c .if3 .left;
-    })
+    sym (rooms-fine record { sizes = sized (c .before .before); places = c .before .if2 .left; each = c .if3 .left })
 
 pub check-rooms-spec : {M : Type 1} → statement M
 check-rooms-spec =

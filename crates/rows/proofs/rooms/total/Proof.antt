@@ -1,6 +1,6 @@
 -- The sum of the counts, where there are not too many. The invariant: the sum so far and the sum of those left are the whole, and a count is
 -- below 2 ^ 32. The counts left grow fewer.
-use Prim.Native.Nat.{ℕ, _+_, _-_, _*_, _^_, _≤_, _<_}
+use Prim.Native.Nat.{ℕ, _+_, _-_, _*_, _≤_, _<_}
 use mathlib.Core.Path.{_≡_}
 use mathlib.Core.List.{List}
 use native.Mathlib.Omega.{arith}

@@ -1,9 +1,9 @@
 -- The loop's invariant: no entry before `at` is faulty under the bound `floor`, which is one more than the rank before
 -- `at`, 0 at the start. An entry that passes both tests is not faulty under the next floor, one that fails any of them is
 -- under any bound. At the end the last entry holds the highest rank. What is left of the row shrinks.
-use Prim.Native.Nat.{ℕ, zero, suc, _+_, _-_, _*_, _≤_, _<_}
-use mathlib.Core.Path.{_≡_, refl, sym, ap, _∙_}
-use mathlib.Core.Bool.{Bool, true, false, not}
+use Prim.Native.Nat.{ℕ, _+_, _-_, _≤_, _<_}
+use mathlib.Core.Path.{_≡_, sym, ap, _∙_}
+use mathlib.Core.Bool.{true, false, not}
 use mathlib.Core.List.{List}
 use native.Mathlib.Nat.{add-sub-cancel}
 use native.Mathlib.Omega.{arith}
@@ -14,7 +14,7 @@ use lib.ListN.{length, getD}
 use denote.Ref.{now}
 use Rattle.basics.specs.Places.{some}
 use Rattle.basics.proofs.Laws.{lt-or-ge, some-one, some-none, not-of-true, not-of-false}
-use Rattle.rows.specs.Entry.{rankOf, joinsOf}
+use Rattle.rows.specs.Entry.{rankOf}
 use Rattle.rows.specs.Rooms.{faultyEntry}
 use Rattle.rows.proofs.Laws.{rank-small, faultless, faultless-higher, faulty-rank, faulty-joins, faulty-rise}
 use Rattle.rows.proofs.sound.sound_part.Statement.{statement}

@@ -1,19 +1,20 @@
--- The loop's invariant: the rooms are fine, every row before v is sound, and what was found is the largest over those
--- rows. The first row that is not sound is refused; the frames left shrink.
-use Prim.Native.Nat.{ℕ, _+_, _-_, _*_, _≤_, _<_, max}
+-- The loop's invariant: the rooms are fine, the first unsound row from v on is the first of all, and what was found is the
+-- largest over the rows before v. A row that is not sound is refused; the frames left shrink.
+use Prim.Native.Nat.{ℕ, _-_, _≤_, max}
 use mathlib.Core.Path.{_≡_, refl, sym, ap, _∙_}
-use mathlib.Core.Bool.{true}
+use mathlib.Core.Bool.{not}
+use native.Mathlib.Nat.{sub-zero}
 use native.Mathlib.Numerals.{add-one}
 use native.Mathlib.Omega.{arith}
-use borrow.Author.Count.{below-more}
 use borrow.Author.Needs.{needs}
-use borrow.Author.Tests.{not-true, not-false}
+use borrow.Author.Tests.{not-false}
 use denote.Ref.{now}
-use Rattle.rows.specs.Rooms.{Rooms, rowAt, soundRow}
+use Rattle.basics.specs.Places.{first}
+use Rattle.basics.proofs.Laws.{read-off, first-here, first-step, first-over, not-of-true}
+use Rattle.rows.specs.Rooms.{Rooms, unsound}
 use Rattle.rows.specs.Spread.{farthest, spreadTold}
-use Rattle.rows.specs.declared.spread.SpreadAnswer.{SpreadAnswer}
 use Rattle.rows.proofs.Laws.{row-inside}
-use Rattle.rows.proofs.RoomLaws.{fine-rooms, rooms-refused, sound-rows, unsound-row}
+use Rattle.rows.proofs.RoomLaws.{fine-rooms, rooms-refused, rows-alone, rows-fine, rows-refused}
 use Rattle.rows.proofs.SpreadLaws.{sound-front, farthest-small, spread-fine, spread-refused}
 use Rattle.rows.proofs.spread.spread.Statement.{statement}
 use Rattle.rows.proofs.spread.spread.Tie as tie
@@ -22,15 +23,11 @@ abbrev Inv-loop : tie.InvT-loop
 Inv-loop n w labels counts found₀ v₀ found v =
     Rooms n w labels counts
     × (v ≤ n)
-    × ((u : ℕ) → u < v → soundRow n n w labels counts u ≡ true)
+    × (first (unsound n n w labels counts) v (n - v) ≡ first (unsound n n w labels counts) 0 n)
     × (found ≡ farthest w labels counts v)
 
 abbrev μ-loop : tie.MeasureT-loop
 μ-loop n w labels counts found₀ v₀ found v = n - v
-
--- the answer, and its numbers
-said : {a b : SpreadAnswer} → a ≡ b → (a ≡ b) × (spreadTold a ≡ spreadTold b)
-said e = (e, ap spreadTold e)
 
 check-rooms-requires : tie.Need-check-rooms-requires Inv-loop μ-loop
 check-rooms-requires c κs = search needs
@@ -41,7 +38,7 @@ enum-known-rooms c = search needs
 returns : tie.Need-returns Inv-loop μ-loop
 returns c =
     let a = c .before .before .before .before .before .before .args in
-    said (spread-refused (a .n) (a .w) (now (a .labels)) (now (a .counts))
+    read-off spreadTold (spread-refused (a .n) (a .w) (now (a .labels)) (now (a .counts))
     (rooms-refused (a .n) (a .n) (a .w) (now (a .labels)) (now (a .counts))
     (sym (c .before .before .before .check-rooms .ensures) ∙ c .before .rooms .given .1)))
 
@@ -53,7 +50,7 @@ unfolding farthest
 loop-holds c = (
   fine-rooms _ _ _ _ (sym (c .before .before .check-rooms .ensures) ∙ c .enum-told .given .1),
   omega arith,
-  (λ u h. absurd (omega arith)),
+  rw sub-zero refl,
   refl,
 )
 
@@ -63,7 +60,7 @@ front-joins-requires c κs =
     let l = c .before .loop in
     let r = l .inv .0 in (
       omega (arith, r .each),
-      omega (arith, r .places, row-inside {v = l .v} {n = a .n} {c = 1} {w = a .w} (c .loop-test .taken) (r .some-width)),
+      omega (arith, r .places, row-inside {v = l .v} {n = a .n} {c = 1} {w = a .w} (c .loop-test .taken) (r .sizes .some-width)),
     )
 
 sound-row-requires : tie.Need-sound-row-requires Inv-loop μ-loop
@@ -73,9 +70,11 @@ returns-2 : tie.Need-returns-2 Inv-loop μ-loop
 returns-2 c =
     let a = c .before .before .before .before .before .before .before .before .before .before .args in
     let l = c .before .before .before .before .loop in
-    said (spread-refused (a .n) (a .w) (now (a .labels)) (now (a .counts))
-    (unsound-row (a .n) (l .inv .0) (l .v) (c .before .before .before .loop-test .taken) (l .inv .2)
-    (sym (c .before .sound-row .ensures) ∙ not-true _ (c .if1 .taken))))
+    read-off spreadTold (spread-refused (a .n) (a .w) (now (a .labels)) (now (a .counts))
+    (rows-alone (a .n) (a .n) (a .w) (now (a .labels)) (now (a .counts)) (l .inv .0)
+    ∙ rows-refused (a .n) (a .n) (a .w) (now (a .labels)) (now (a .counts))
+    (sym (first-here _ _ _ (c .before .before .before .loop-test .taken) (ap not (sym (c .before .sound-row .ensures)) ∙ c .if1 .taken)) ∙ l .inv .2)
+    (omega arith)))
 
 larger-requires : tie.Need-larger-requires Inv-loop μ-loop
 larger-requires c κs = search needs
@@ -95,7 +94,7 @@ loop-again c =
     let sound = sym (c .before .before .sound-row .ensures) ∙ not-false _ (c .before .if1 .left) in (
       l .inv .0,
       omega arith,
-      below-more _ _ (l .inv .2) sound,
+      first-step _ _ _ k (not-of-true sound) ∙ l .inv .2,
       c .larger .ensures
           ∙ (λ i. max ((c .before .before .before .front-joins .ensures ∙ sym (sound-front (l .inv .0) k sound)) i) (l .inv .3 i))
           ∙ sym (ap (λ (v : ℕ). farthest (a .w) (now (a .labels)) (now (a .counts)) v) (add-one (l .v))),
@@ -112,8 +111,9 @@ returns-3 c =
     let a = c .before .before .before .before .before .before .before .args in
     let l = c .before .loop in
     let e : l .v ≡ a .n = omega arith in
-    said (spread-fine (a .n) (a .w) (now (a .labels)) (now (a .counts))
-    (sound-rows (a .n) (a .n) (a .w) (now (a .labels)) (now (a .counts)) (l .inv .0) (λ u h. l .inv .2 u (omega arith)))
+    read-off spreadTold (spread-fine (a .n) (a .w) (now (a .labels)) (now (a .counts))
+    (rows-alone (a .n) (a .n) (a .w) (now (a .labels)) (now (a .counts)) (l .inv .0)
+    ∙ rows-fine (a .n) (a .n) (a .w) (now (a .labels)) (now (a .counts)) (sym (l .inv .2) ∙ first-over _ _ _ (c .loop-test .left) ∙ e))
     (l .inv .3 ∙ ap (λ (v : ℕ). farthest (a .w) (now (a .labels)) (now (a .counts)) v) e))
 
 pub spread-spec : {M : Type 1} → statement M

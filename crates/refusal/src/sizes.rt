@@ -1,0 +1,43 @@
+// The ranges that test 1 holds sizes to: they stand here and in specs/Sizes.antt, and nowhere else.
+ghost use mathlib.Core.Path.{_≡_};
+ghost use Rattle.refusal.specs.Sizes.{within, framesFit, widthFits, placesFit, sizesFit};
+
+fn is_within(least: usize, most: usize, x: usize) -> bool
+    ensures { λ r. ⌜ r ≡ within least most x ⌝ }
+{
+    if x < least {
+        return false;
+    }
+    x <= most
+}
+
+// Whether n is 1 to 4,096.
+pub fn frames_fit(n: usize) -> bool
+    ensures { λ r. ⌜ r ≡ framesFit n ⌝ }
+{
+    is_within(1, 4096, n)
+}
+
+// Whether W is 1 to 256.
+pub fn width_fits(w: usize) -> bool
+    ensures { λ r. ⌜ r ≡ widthFits w ⌝ }
+{
+    is_within(1, 256, w)
+}
+
+// Whether the neighbour places are at most 65,536.
+pub fn places_fit(l: usize) -> bool
+    ensures { λ r. ⌜ r ≡ placesFit l ⌝ }
+{
+    l <= 65536
+}
+
+// Whether n and W are in range.
+pub fn sizes_fit(n: usize, w: usize) -> bool
+    ensures { λ r. ⌜ r ≡ sizesFit n w ⌝ }
+{
+    if frames_fit(n) {
+        return width_fits(w);
+    }
+    false
+}
