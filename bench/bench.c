@@ -1,6 +1,6 @@
 /* Times the proved library through its C interface beside the same method in plain C and plain Rust, in one run, interleaved, and
  * prints a table of ratios: library time over baseline time, medians of paired runs. Below 1 the library is the faster one.
- * Every result is compared, so a wrong baseline is noticed. */
+ * Every answer and every room that a call fills, but the two work rooms, is compared, so a wrong baseline is noticed. */
 #include "../crates/capi/seam.h"
 #include "baseline.h"
 #include <math.h>
@@ -13,9 +13,10 @@
 #define W 256
 #define ROUNDS 15
 
-static uint32_t starts[N + 1], places[65536], order[N], order_b[N];
-static uint32_t labels[3][N * W], counts[3][N], met[N], queue[N], order_r[N];
-static uint8_t file[2][4 + 3 * N + 3 * N * W + N * 2];
+static uint32_t starts[N + 1], places[65536], order[N], order_b[3][N];
+static uint32_t labels[3][N * W], counts[3][N], met[N], queue[N];
+static uint32_t order_r[3][N], labels_r[3][N * W], counts_r[3][N];
+static uint8_t file[3][4 + 3 * N + 3 * N * W + N * 2];
 static uint32_t ask_s[20000], ask_t[20000];
 static size_t n_places;
 static uint64_t seed = 0x2545F4914F6CDD1DULL;
@@ -49,6 +50,8 @@ static void must(int ok, const char *what) {
         exit(1);
     }
 }
+
+static int same(const void *a, const void *b, const void *c, size_t bytes) { return !memcmp(a, b, bytes) && !memcmp(b, c, bytes); }
 
 /* ---- blocks, as pairs */
 
@@ -194,14 +197,13 @@ static double search_ratio;
 static const char *search_block;
 
 static void run(const char *block) {
-    uint64_t place, e[3], n, k, bytes, sp;
-    uint32_t found[3];
+    uint64_t place, e[3], n[3], k[3], bytes[3], sp[3];
+    uint32_t bad[3], found[3];
     uint64_t joins[3], sum[3];
-    must(seam_order_by_degree(N, starts, N + 1, places, n_places, order_b, N, &place) == 0, "order by degree");
-    ROW_OF("order by degree", 20, seam_order_by_degree(N, starts, N + 1, places, n_places, order_b, N, &place),
-           c_order_by_degree(N, starts, N + 1, places, n_places, order_b, N),
-           r_order_by_degree(N, starts, N + 1, places, n_places, order_b, N));
-    uint32_t bad[3];
+    ROW_OF("order by degree", 20, bad[0] = seam_order_by_degree(N, starts, N + 1, places, n_places, order_b[0], N, &place),
+           bad[1] = c_order_by_degree(N, starts, N + 1, places, n_places, order_b[1], N),
+           bad[2] = r_order_by_degree(N, starts, N + 1, places, n_places, order_b[2], N));
+    must(!bad[0] && !bad[1] && !bad[2] && same(order_b[0], order_b[1], order_b[2], sizeof order_b[0]), "orders differ");
     ROW_OF("build", 1,
            bad[0] = seam_build(N, W, N, starts, N + 1, places, n_places, order, N, labels[0], N * W, counts[0], N, met, N, queue, N,
                                &e[0], &place),
@@ -209,7 +211,8 @@ static void run(const char *block) {
            bad[2] = r_build(N, W, N, starts, N + 1, places, n_places, order, N, labels[2], N * W, counts[2], N, met, N, queue, N, &e[2]));
     if (bad[0]) fprintf(stderr, "%s: refused %u at %lu\n", block, bad[0], (unsigned long)place);
     must(bad[0] == 0 && bad[1] == 0 && bad[2] == 0 && e[0] == e[1] && e[1] == e[2], "build");
-    must(!memcmp(labels[0], labels[1], sizeof labels[0]) && !memcmp(labels[1], labels[2], sizeof labels[0]), "rows differ");
+    must(same(labels[0], labels[1], labels[2], sizeof labels[0]), "rows differ");
+    must(same(counts[0], counts[1], counts[2], sizeof counts[0]), "counts differ");
     for (int i = 0; i < 20000; i++) {
         ask_s[i] = dice() % N;
         ask_t[i] = dice() % N;
@@ -220,7 +223,13 @@ static void run(const char *block) {
            ASK(0, seam_pair(N, W, labels[0], N * W, counts[0], N, ask_s[i], ask_t[i], &found[0], &joins[0], &place)),
            ASK(1, c_pair(N, W, labels[0], N * W, counts[0], N, ask_s[i], ask_t[i], &found[1], &joins[1])),
            ASK(2, r_pair(N, W, labels[0], N * W, counts[0], N, ask_s[i], ask_t[i], &found[2], &joins[2])));
-    must(sum[0] == sum[1] && sum[1] == sum[2], "answers differ");
+    must(sum[0] == sum[1] && sum[1] == sum[2], "sums of answers differ");
+    for (int i = 0; i < 20000; i++) {
+        must(!seam_pair(N, W, labels[0], N * W, counts[0], N, ask_s[i], ask_t[i], &found[0], &joins[0], &place), "pair");
+        must(!c_pair(N, W, labels[0], N * W, counts[0], N, ask_s[i], ask_t[i], &found[1], &joins[1]), "pair in C");
+        must(!r_pair(N, W, labels[0], N * W, counts[0], N, ask_s[i], ask_t[i], &found[2], &joins[2]), "pair in Rust");
+        must(found[0] == found[1] && found[1] == found[2] && joins[0] == joins[1] && joins[1] == joins[2], "answers differ");
+    }
     long apart = 0;
     for (int round = 0; round < ROUNDS; round++) {
         double t0 = now();
@@ -242,18 +251,24 @@ static void run(const char *block) {
         search_block = block;
     }
     printf("| %s | pair beside a search (%ld joins) | %s | %.0f times as fast | |\n", block, apart, span(per_pair), faster);
-    ROW_OF("spread", 20, seam_spread(N, W, labels[0], N * W, counts[0], N, &sp, &place),
-           c_spread(N, W, labels[0], N * W, counts[0], N, &sp), r_spread(N, W, labels[0], N * W, counts[0], N, &sp));
+    ROW_OF("spread", 20, bad[0] = seam_spread(N, W, labels[0], N * W, counts[0], N, &sp[0], &place),
+           bad[1] = c_spread(N, W, labels[0], N * W, counts[0], N, &sp[1]),
+           bad[2] = r_spread(N, W, labels[0], N * W, counts[0], N, &sp[2]));
+    must(!bad[0] && !bad[1] && !bad[2] && sp[0] == sp[1] && sp[1] == sp[2], "spreads differ");
     ROW_OF("write", 5,
-           bad[0] = seam_write(N, W, N, order, N, labels[0], N * W, counts[0], N, file[0], sizeof file[0], 0, &bytes, &place),
-           bad[1] = c_write(N, W, N, order, N, labels[0], N * W, counts[0], N, file[1], sizeof file[1], 0, &bytes),
-           bad[2] = r_write(N, W, N, order, N, labels[0], N * W, counts[0], N, file[1], sizeof file[1], 0, &bytes));
-    must(!bad[0] && !bad[1] && !bad[2] && !memcmp(file[0], file[1], bytes), "files differ");
+           bad[0] = seam_write(N, W, N, order, N, labels[0], N * W, counts[0], N, file[0], sizeof file[0], 0, &bytes[0], &place),
+           bad[1] = c_write(N, W, N, order, N, labels[0], N * W, counts[0], N, file[1], sizeof file[1], 0, &bytes[1]),
+           bad[2] = r_write(N, W, N, order, N, labels[0], N * W, counts[0], N, file[2], sizeof file[2], 0, &bytes[2]));
+    must(!bad[0] && !bad[1] && !bad[2] && bytes[0] == bytes[1] && bytes[1] == bytes[2], "sizes differ");
+    must(same(file[0], file[1], file[2], bytes[0]), "files differ");
     ROW_OF("read", 5,
-           bad[0] = seam_read(file[0], bytes, W, order_r, N, labels[0], N * W, counts[0], N, &n, &k, &place),
-           bad[1] = c_read(file[0], bytes, W, order_r, N, labels[1], N * W, counts[1], N, &n, &k),
-           bad[2] = r_read(file[0], bytes, W, order_r, N, labels[2], N * W, counts[2], N, &n, &k));
-    must(!bad[0] && !bad[1] && !bad[2] && !memcmp(labels[0], labels[1], sizeof labels[0]), "reads differ");
+           bad[0] = seam_read(file[0], bytes[0], W, order_r[0], N, labels_r[0], N * W, counts_r[0], N, &n[0], &k[0], &place),
+           bad[1] = c_read(file[0], bytes[0], W, order_r[1], N, labels_r[1], N * W, counts_r[1], N, &n[1], &k[1]),
+           bad[2] = r_read(file[0], bytes[0], W, order_r[2], N, labels_r[2], N * W, counts_r[2], N, &n[2], &k[2]));
+    for (int x = 0; x < 3; x++) {
+        must(!bad[x] && n[x] == N && k[x] == N && !memcmp(order_r[x], order, sizeof order), "a read differs");
+        must(!memcmp(labels_r[x], labels[0], sizeof labels[0]) && !memcmp(counts_r[x], counts[0], sizeof counts[0]), "rows read differ");
+    }
 }
 
 int main(void) {

@@ -1,4 +1,5 @@
-// Thousands of blocks, sound and damaged, against the model; guard words around every room.
+// Thousands of blocks, sound and damaged, against the model; guard words around the rooms that order by degree, the build and
+// the reader fill.
 
 mod model;
 

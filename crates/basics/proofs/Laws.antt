@@ -5,13 +5,14 @@ use mathlib.Core.Path.{_≡_, refl, sym, ap, _∙_}
 use mathlib.Core.Logic.{_⊎_, inl, inr}
 use mathlib.Core.Bool.{Bool, true, false, cond, not, _&&_, _||_, true≢false}
 use mathlib.Core.List.{List, [], _∷_}
+use native.Mathlib.Nat.{add-sub-of-le}
 use native.Mathlib.Numerals.{add-one}
 use native.Mathlib.Decide.{decLt, ℕ-discrete}
 use native.Mathlib.Omega.{arith}
 use lib.ListN.{length, getD, set, drop, drop-of-length-le}
-use lib.Dec.{eqb}
-use lib.Seq.{ext-getD, getD-set-same, getD-set-other, drop-cons}
-use borrow.Author.Tests.{eqb-true, eq-eqb}
+use lib.Dec.{eqb, ltb}
+use lib.Seq.{ext-getD, getD-set-same, getD-set-other, drop-cons, drop-drop}
+use borrow.Author.Tests.{eqb-true, eq-eqb, ltb-true, lt-ltb, le-ltb}
 use Rattle.basics.specs.Places.{first, some, stands, count, least, table, sum}
 
 -- ---- cases
@@ -78,14 +79,6 @@ not-of-true e = ap not e
 pub not-of-false : {b : Bool} → b ≡ false → not b ≡ true
 not-of-false e = ap not e
 
-pub of-not-true : (b : Bool) → not b ≡ true → b ≡ false
-of-not-true true e = sym e
-of-not-true false e = refl
-
-pub of-not-false : (b : Bool) → not b ≡ false → b ≡ true
-of-not-false true e = refl
-of-not-false false e = sym e
-
 pub same-truth : (a b : Bool) → (a ≡ true → b ≡ true) → (b ≡ true → a ≡ true) → a ≡ b
 same-truth true b f g = sym (f refl)
 same-truth false true f g = g refl
@@ -98,6 +91,11 @@ cond-true {b = false} x y e = not-both e refl
 pub cond-false {ℓ} : {A : Type ℓ} {b : Bool} (x y : A) → b ≡ false → cond b x y ≡ y
 cond-false {b = true} x y e = not-both refl e
 cond-false {b = false} x y e = refl
+
+-- what neither of two is below
+pub cond-ge : (b : Bool) {x y : ℕ} (m : ℕ) → m ≤ x → m ≤ y → m ≤ cond b x y
+cond-ge true m p q = p
+cond-ge false m p q = q
 
 -- the same answer, and what is read off it
 pub read-off {ℓ} : {A B : Type ℓ} (f : A → B) {a b : A} → a ≡ b → (a ≡ b) × (f a ≡ f b)
@@ -230,15 +228,23 @@ some-ext p q a (suc left) same =
 
 -- ---- what stands at a place
 
-pub stands-at : (f : ℕ → ℕ) (k r : ℕ) → r < k → stands f k (f r) ≡ true
+pub stands-at : (f : ℕ → ℕ) (k r : ℕ) {v : ℕ} → r < k → f r ≡ v → stands f k v ≡ true
 unfolding stands
-stands-at f k r h = some-one (λ j. eqb (f j) (f r)) 0 k r (omega arith) (omega arith) (eq-eqb (f r) (f r) refl)
+stands-at f k r {v} h e = some-one (λ j. eqb (f j) v) 0 k r (omega arith) (omega arith) (eq-eqb (f r) v e)
 
 pub stands-by : (f : ℕ → ℕ) (k v : ℕ) → stands f k v ≡ true → (r : ℕ) × (r < k) × (f r ≡ v)
 unfolding stands
 stands-by f k v e =
     let (r, low, h, m) = some-found (λ j. eqb (f j) v) 0 k e in
     (r, omega arith, eqb-true (f r) v m)
+
+pub stands-not : (f : ℕ → ℕ) (k v : ℕ) → ((r : ℕ) → r < k → f r ≡ v → ⊥) → stands f k v ≡ false
+stands-not f k v never =
+    bcase (stands f k v)
+    (λ e.
+    let (r, h, q) = stands-by f k v e in
+    absurd (never r h q))
+    (λ e. e)
 
 -- nothing stands below place 0
 pub stands-none : (f : ℕ → ℕ) (v : ℕ) → stands f 0 v ≡ false
@@ -253,10 +259,24 @@ stands-other f r v apart =
     let (j, h, e) = stands-by f (r + 1) v t in
     by-cases (ℕ-discrete j r)
     (λ (q : j ≡ r). absurd (apart (sym e ∙ ap f q)))
-    (λ q. ap (stands f r) (sym e) ∙ stands-at f r j (omega arith)))
+    (λ q. stands-at f r j (omega arith) e))
     (λ t.
     let (j, h, e) = stands-by f r v t in
-    ap (stands f (r + 1)) (sym e) ∙ stands-at f (r + 1) j (omega arith))
+    stands-at f (r + 1) j (omega arith) e)
+
+-- numbers that differ at different places stand at one place each
+pub once-same : (n : ℕ) (f : ℕ → ℕ) → ((r s : ℕ) → r < s → s < n → f r ≡ f s → ⊥)
+    → (r s : ℕ) → r < n → s < n → f r ≡ f s → r ≡ s
+once-same n f once r s h k e =
+    three-ways r s (λ l. absurd (once r s l k e)) (λ q. q) (λ g. absurd (once s r g h (sym e)))
+
+-- what never falls from one place to the next never falls
+pub never-falls : (f : ℕ → ℕ) (n : ℕ) → ((v : ℕ) → v < n → f v ≤ f (v + 1)) → (u v : ℕ) → u ≤ v → v ≤ n → f u ≤ f v
+never-falls f n rise u zero h k = omega (arith, ap f (let e : u ≡ 0 = omega arith in e))
+never-falls f n rise u (suc v) h k =
+    by-cases (ℕ-discrete u (suc v))
+    (λ (e : u ≡ suc v). omega (arith, ap f e))
+    (λ e. omega (arith, ap f (add-one v), never-falls f n rise u v (omega arith) (omega arith), rise v (omega arith)))
 
 -- ---- how many are marked
 
@@ -451,6 +471,13 @@ some-first marked a left h =
 pub none-first : (marked : ℕ → Bool) (a left : ℕ) → a + left ≤ first marked a left → some marked a left ≡ false
 none-first marked a left h = some-none marked a left (λ j low high. first-before marked a left j low (omega arith))
 
+-- a search over n places that ends at n has found none marked, and the other way
+pub end-none : (marked : ℕ → Bool) (n : ℕ) → eqb (first marked 0 n) n ≡ true → (v : ℕ) → v < n → marked v ≡ false
+end-none marked n e v h = first-before marked 0 n v (omega arith) (omega (arith, eqb-true (first marked 0 n) n e))
+
+pub none-end : (marked : ℕ → Bool) (n : ℕ) → ((v : ℕ) → v < n → marked v ≡ false) → eqb (first marked 0 n) n ≡ true
+none-end marked n none = eq-eqb (first marked 0 n) n (first-none marked 0 n (λ j low high. none j (omega arith)) ∙ omega arith)
+
 -- a place that a search gave is not before its start
 pub found-low : (marked : ℕ → Bool) (a left : ℕ) {i : ℕ} → i ≡ first marked a left → a ≤ i
 found-low marked a left e = omega (arith, first-low marked a left)
@@ -474,6 +501,21 @@ count-or p q (suc n) apart =
     bcase (q n)
     (λ f. omega (arith, count-hit one n (either-right (p n) (q n) f), count-miss p n e, count-hit q n f))
     (λ f. omega (arith, count-miss one n (neither (p n) (q n) e f), count-miss p n e, count-miss q n f)))
+
+-- more lie below a greater bound, where one lies between the two
+pub count-lower : (f : ℕ → ℕ) (n u a b : ℕ) → u < n → a ≤ f u → f u < b → count (λ v. ltb (f v) a) n < count (λ v. ltb (f v) b) n
+count-lower f n u a b h low high =
+    count-more (λ v. ltb (f v) a) (λ v. ltb (f v) b) n u
+    (λ v l m. lt-ltb (f v) b (omega (arith, ltb-true (f v) a m)))
+    h (le-ltb (f u) a low) (lt-ltb (f u) b high)
+
+-- ---- a list from a place on
+
+-- what two lists share from a place on they share from any later place on
+pub drop-later {ℓ} : {A : Type ℓ} (l m : List A) (a b : ℕ) → a ≤ b → drop a l ≡ drop a m → drop b l ≡ drop b m
+drop-later l m a b h e =
+    let k : a + (b - a) ≡ b = add-sub-of-le h in
+    ap (λ (i : ℕ). drop i l) (sym k) ∙ sym (drop-drop (b - a) a l) ∙ ap (drop (b - a)) e ∙ drop-drop (b - a) a m ∙ ap (λ (i : ℕ). drop i m) k
 
 -- ---- the sum from a place on
 

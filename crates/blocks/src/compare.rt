@@ -12,7 +12,7 @@ use rows::entry::Entry;
 use rows::pair::Answer;
 use rows::pair::pair;
 
-// Whether an answer is the count of the search.
+// Whether an answer is what the search found.
 fn is_equal(said: Answer, joins: u32) -> bool {
     match said {
         Answer::Joins(sum) => {
@@ -26,7 +26,7 @@ fn is_equal(said: Answer, joins: u32) -> bool {
     }
 }
 
-// Every answer for s held against the count that the searches have for it; the first that differs is printed, and nothing is
+// Every answer for s held against the joins that the searches found; the first that differs is printed, and nothing is
 // compared behind it.
 pub fn compare_row(
     n: usize,
@@ -44,9 +44,9 @@ pub fn compare_row(
     let mut t = 0;
     while t < n {
         let said = pair(n, w, labels, counts, s, t);
-        let count = get(joins, t);
-        if !is_equal(said, count) {
-            say::difference(n, k, s, t, said, count);
+        let searched = get(joins, t);
+        if !is_equal(said, searched) {
+            say::difference(n, k, s, t, said, searched);
             return before.unequal();
         }
         t += 1;

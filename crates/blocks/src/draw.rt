@@ -29,7 +29,7 @@ pub fn place_of(s: usize, t: usize) -> usize {
     s % SIDE * SIDE + t % SIDE
 }
 
-// Marks one join both ways, unless it is a frame with itself.
+// Marks one link both ways, unless it is a frame with itself.
 fn mark(marks: &mut [u32], s: usize, t: usize) {
     if s == t {
         return;
@@ -38,10 +38,10 @@ fn mark(marks: &mut [u32], s: usize, t: usize) {
     put(marks, place_of(t, s), 1);
 }
 
-// Draws so many joins between n frames; some fall together, and some frames stay alone.
-pub fn draw(marks: &mut [u32], n: usize, joins: usize, first: u64) {
+// Draws so many links between n frames; some fall together, and some frames stay alone.
+pub fn draw(marks: &mut [u32], n: usize, links: usize, first: u64) {
     let mut seed = first;
-    let mut left = joins;
+    let mut left = links;
     while 0 < left {
         let one = roll(seed);
         let two = roll(one);
@@ -60,8 +60,8 @@ pub fn draw_path(marks: &mut [u32], n: usize) {
     }
 }
 
-// Whether a block joins two frames: the grid where they lie side by side, a drawn one where they are marked.
-fn is_joined(is_grid: bool, marks: &[u32], s: usize, t: usize) -> bool {
+// Whether a block links two frames: the grid where they lie side by side, a drawn one where they are marked.
+fn is_linked(is_grid: bool, marks: &[u32], s: usize, t: usize) -> bool {
     if is_grid {
         return is_beside(s, t);
     }
@@ -80,7 +80,7 @@ fn lay_list(
     let mut at = from;
     let mut u = 0;
     while u < n {
-        if is_joined(is_grid, marks, v, u) {
+        if is_linked(is_grid, marks, v, u) {
             at = push(places, at, u);
         }
         u += 1;

@@ -1,4 +1,4 @@
-// The kinds of random blocks: how many frames, how wide a row, which joins.
+// The kinds of random blocks: how many frames, how wide a row, which links.
 ghost use Prim.Native.Nat.{_≤_};
 use crate::draw::SIDE;
 use crate::draw::below;
@@ -34,8 +34,8 @@ fn path_of(n: usize, kind: usize) -> usize {
     if kind < 2 { n } else { 0 }
 }
 
-// How many joins are drawn at random in a block of each of the six kinds.
-fn joins_of(n: usize, kind: usize) -> usize
+// How many links are drawn at random in a block of each of the six kinds.
+fn links_of(n: usize, kind: usize) -> usize
     requires { ⌜ n ≤ 200 ⌝ }
 {
     match kind {
@@ -53,7 +53,7 @@ fn draw_kind(marks: &mut [u32], n: usize, kind: usize, seed: u64)
     requires { ⌜ n ≤ 200 ⌝ }
 {
     draw_path(marks, path_of(n, kind));
-    draw(marks, n, joins_of(n, kind), seed);
+    draw(marks, n, links_of(n, kind), seed);
 }
 
 // Start positions and lists of a random block; how many neighbour places there are.

@@ -103,8 +103,8 @@ fn run_block(block: usize, is_random: bool, before: Tally) -> Tally {
     let ends = n + 1;
     let size = n * w;
     let kind = below(three, 6);
-    let last = make_block(n, kind, three, &mut marks, &mut starts, &mut places);
-    if SIDE * SIDE < last {
+    let place_count = make_block(n, kind, three, &mut marks, &mut starts, &mut places);
+    if SIDE * SIDE < place_count {
         return before;
     }
     try_order(
@@ -113,7 +113,7 @@ fn run_block(block: usize, is_random: bool, before: Tally) -> Tally {
         n,
         w,
         &starts[..ends],
-        &places[..last],
+        &places[..place_count],
         &mut order[..n],
         &mut labels[..size],
         &mut counts[..n],

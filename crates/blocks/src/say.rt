@@ -23,7 +23,7 @@ fn answer(said: Answer) {
 }
 
 // What the search said.
-fn count(joins: u32) {
+fn searched(joins: u32) {
     if joins == NONE {
         text(b" search none");
     } else {
@@ -38,7 +38,7 @@ pub fn difference(n: usize, k: usize, s: usize, t: usize, said: Answer, joins: u
     field(b" s ", s);
     field(b" t ", t);
     answer(said);
-    count(joins);
+    searched(joins);
     text(b"\n");
 }
 

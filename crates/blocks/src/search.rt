@@ -31,12 +31,12 @@ pub fn search_from(
     }
 }
 
-// Meets a frame: unless it has a count, it gets this one and goes to the queue's end. Where the queue then ends.
-fn meet(v: usize, count: u32, joins: &mut [u32], queue: &mut [u32], end: usize) -> usize {
+// Meets a frame: unless it was met before, it gets these joins and goes to the queue's end. Where the queue then ends.
+fn meet(v: usize, searched: u32, joins: &mut [u32], queue: &mut [u32], end: usize) -> usize {
     if get(joins, v) != NONE {
         return end;
     }
-    put(joins, v, count);
+    put(joins, v, searched);
     push(queue, end, v)
 }
 

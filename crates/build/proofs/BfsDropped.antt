@@ -9,9 +9,9 @@ use native.Mathlib.Decide.{ℕ-discrete}
 use native.Mathlib.Omega.{arith}
 use lib.ListN.{length, getD, set, length-set}
 use lib.Seq.{getD-set-same, getD-set-other}
+use borrow.Author.Count.{below-more}
 use Rattle.basics.proofs.Laws.{by-cases, cases}
-use Rattle.build.specs.Explore.{Queue, Bfs, metAt}
-use Rattle.build.proofs.BfsQueue.{filled-set}
+use Rattle.build.specs.Explore.{Queued, Bfs, metAt}
 use Rattle.build.proofs.BfsStep.{Carried, done-stays, parent-stays, apart}
 
 module _ {n : ℕ} {S L : List ℕ} {drop : ℕ → ℕ → Bool} {hub : ℕ} {M Q : List ℕ} {head tail : ℕ}
@@ -19,13 +19,13 @@ module _ {n : ℕ} {S L : List ℕ} {drop : ℕ → ℕ → Bool} {hub : ℕ} {M
   module _ (mark : ℕ) (is : getD M (getD Q head 0) 0 ≡ mark) {r : Bool} (says : r ≡ drop (getD Q head 0) (mark - 1))
       (hit : r ≡ true) where
     inside : getD Q head 0 < length M
-    inside = b .line .is .low head more
+    inside = b .line .low head more
 
     first-met : 1 ≤ mark
-    first-met = omega (arith, is, b .line .is .marked head more)
+    first-met = omega (arith, is, b .line .is-met head more)
 
-    not-marked : mark < 65536
-    not-marked = omega (arith, is, b .plain head (omega arith) more)
+    not-over : mark < 65536
+    not-over = omega (arith, is, b .plain head (omega arith) more)
 
     M' : List ℕ
     M' = set M (getD Q head 0) (mark + 65536)
@@ -51,8 +51,8 @@ module _ {n : ℕ} {S L : List ℕ} {drop : ℕ → ℕ → Bool} {hub : ℕ} {M
         f (omega arith) old)
         (λ q. g (other v q))
 
-    level : (v : ℕ) → metAt M' v ≡ metAt M v
-    level v = at-frame v (λ s o. omega (arith, not-marked)) (λ s. omega arith)
+    met-at : (v : ℕ) → metAt M' v ≡ metAt M v
+    met-at v = at-frame v (λ s o. omega (arith, not-over)) (λ s. omega arith)
 
     stays : (v : ℕ) → 0 < getD M v 0 → 0 < getD M' v 0
     stays v m = at-frame v (λ s o. omega arith) (λ s. omega arith)
@@ -68,24 +68,21 @@ module _ {n : ℕ} {S L : List ℕ} {drop : ℕ → ℕ → Bool} {hub : ℕ} {M
         record {
           same = λ i q. same i (omega arith) (λ e. omega arith);
           stay = stays;
-          level = λ v m. level v;
+          met-at = λ v m. met-at v;
           front = λ i q. refl;
         }
 
-    line' : Queue M' Q tail
+    line' : Queued M' Q tail
     unfolding M'
     line' =
         record {
-          is = record {
-            long = b .line .is .long ∙ sym long;
-            few = omega (arith, long, b .line .is .few);
-            low = λ i p. omega (arith, long, b .line .is .low i p);
-            marked = λ i p. stays (getD Q i 0) (b .line .is .marked i p);
-            all = λ v p m. b .line .is .all v (omega (arith, long)) (was v m);
-            once = b .line .is .once;
-            rest = b .line .is .rest;
-          };
-          count = omega (arith, filled-set M (getD Q head 0) (mark + 65536) inside, b .line .count, is, first-met);
+          long = b .line .long ∙ sym long;
+          few = omega (arith, long, b .line .few);
+          low = λ i p. omega (arith, long, b .line .low i p);
+          is-met = λ i p. stays (getD Q i 0) (b .line .is-met i p);
+          all = λ v p m. b .line .all v (omega (arith, long)) (was v m);
+          once = b .line .once;
+          rest = b .line .rest;
         }
 
     pub bfs-drop : Bfs n S L drop hub (set M (getD Q head 0) (mark + 65536)) Q (head + 1) tail
@@ -97,41 +94,34 @@ module _ {n : ℕ} {S L : List ℕ} {drop : ℕ → ℕ → Bool} {hub : ℕ} {M
           ahead = omega arith;
           some = b .some;
           first = b .first;
-          start = level hub ∙ b .start;
+          start = met-at hub ∙ b .start;
           small = λ i p.
               by-cases (ℕ-discrete i head)
-              (λ (q : i ≡ head). rw q (omega (arith, here, not-marked)))
+              (λ (q : i ≡ head). rw q (omega (arith, here, not-over)))
               (λ q. omega (arith, same i p q, b .small i p));
-          least = λ i p. omega (arith, level (getD Q i 0), b .least i p);
-          rise = λ i j p q. omega (arith, level (getD Q i 0), level (getD Q j 0), b .rise i j p q);
+          least = λ i p. omega (arith, met-at (getD Q i 0), b .least i p);
+          rise = λ i j p q. omega (arith, met-at (getD Q i 0), met-at (getD Q j 0), b .rise i j p q);
           near = λ j p q.
               omega (
                 arith,
-                level (getD Q j 0),
-                level (getD Q (head + 1) 0),
+                met-at (getD Q j 0),
+                met-at (getD Q (head + 1) 0),
                 b .near j more q,
                 b .rise head (head + 1) (omega arith) p,
               );
-          short = λ j p. omega (arith, level (getD Q j 0), b .short j p);
+          short = λ j p. omega (arith, met-at (getD Q j 0), b .short j p);
           plain = λ j p q. omega (arith, same j q (λ e. omega arith), b .plain j (omega arith) q);
           reason = λ j p.
               cases (b .reason j p) inl
-              (λ r.
-              inr
-              (parent-stays carried (getD Q j 0) (b .line .is .marked j p) r));
-          done = λ i p.
-              by-cases (ℕ-discrete i head)
-              (λ (q : i ≡ head).
-              rw q
+              (λ r. inr (parent-stays carried (getD Q j 0) (b .line .is-met j p) r));
+          done = below-more _ head (λ i p. done-stays carried i p (b .done i p))
               (inr
               (record {
-                marked = omega (arith, here);
+                over = omega (arith, here);
                 found =
-                    ap (λ (l : ℕ). drop (getD Q head 0) l)
-                    (let l : metAt M' (getD Q head 0) - 1 ≡ mark - 1 = omega (arith, here, not-marked) in l)
+                    ap (drop (getD Q head 0))
+                    (let l : metAt M' (getD Q head 0) - 1 ≡ mark - 1 = omega (arith, here, not-over) in l)
                     ∙ sym says
                     ∙ hit;
-              })))
-              (λ q.
-              done-stays carried i (omega arith) (b .done i (omega arith)));
+              }));
         }

@@ -48,7 +48,7 @@ module _ {n : ℕ} {S L : List ℕ} (block : Block n 1 S L ones) {drop : ℕ →
 
   place : (v : ℕ) → v < n → 0 < getD M v 0 → Place v
   place v h m =
-      let (i, p, q) = b .line .is .all v (omega (arith, b .long)) m in
+      let (i, p, q) = b .line .all v (omega (arith, b .long)) m in
       let one : 1 ≤ metAt M v = rw q at (b .least i p) in
       let most : metAt M v ≤ i + 1 = rw q at (b .short i p) in
       record {
@@ -56,7 +56,7 @@ module _ {n : ℕ} {S L : List ℕ} (block : Block n 1 S L ones) {drop : ℕ →
         before = p;
         here = q;
         level = omega (arith, is-met v m);
-        low = omega (arith, is-met v m, b .line .is .few, b .long);
+        low = omega (arith, is-met v m, b .line .few, b .long);
         small = rw q at (b .small i p);
         done = rw q at (b .done i p);
       }
@@ -111,18 +111,18 @@ module _ {n : ℕ} {S L : List ℕ} (block : Block n 1 S L ones) {drop : ℕ →
       (λ q. absurd (other (sym (pv .here) ∙ q)))
       (λ r.
       let u : ℕ = getD Q (r .place) 0 in
-      let low : u < n = omega (arith, b .line .is .low (r .place) (r .before), b .long) in
-      let pu : Place u = place u low (b .line .is .marked (r .place) (r .before)) in
+      let low : u < n = omega (arith, b .line .low (r .place) (r .before), b .long) in
+      let pu : Place u = place u low (b .line .is-met (r .place) (r .before)) in
       let link : Link S L ones u v 1 = rw (pv .here) at (r .link) in
-      let level : metAt M v ≡ metAt M u + 1 = rw (pv .here) at (r .level) in
+      let next : metAt M v ≡ metAt M u + 1 = rw (pv .here) at (r .met-at) in
       let one : oneEach B (joined S L) u v ≡ 1 = cond-true 1 B (link-joined block low link) in
       cases (pu .done)
       (λ k. (u, low, kept-below u low pu k, omega (arith, pu .level, pv .level)))
-      (λ d. absurd (omega (arith, r .kept, d .marked)))))
+      (λ d. absurd (omega (arith, r .kept, d .over)))))
 
   pub bfs-met : Met B n (oneEach B (joined S L)) A hub (levelIn B M)
   bfs-met =
-      let first : 0 < getD M hub 0 = rw (b .first) at (b .line .is .marked 0 (b .some)) in
+      let first : 0 < getD M hub 0 = rw (b .first) at (b .line .is-met 0 (b .some)) in
       record {
         cap = cap;
         start = omega (arith, is-met hub first, b .start);
@@ -142,19 +142,19 @@ module _ {n : ℕ} {S L : List ℕ} (block : Block n 1 S L ones) {drop : ℕ →
       let low : levelIn B M v < B = omega (arith, p .low) in
       cases (p .done)
       (λ k. omega (arith, mark-yes B (levelIn B M v) (A v) low (kept-below v h p k), p .level, k .plain))
-      (λ d. omega (arith, mark-drop B (levelIn B M v) (A v) low (dropped-above v h p d), p .level, d .marked, p .small))))
+      (λ d. omega (arith, mark-drop B (levelIn B M v) (A v) low (dropped-above v h p d), p .level, d .over, p .small))))
 
   pub bfs-room : M ≡ table n (λ v. mark B (levels B n (joined S L) A hub n v) (A v))
   bfs-room = is-table 0 M n (λ v. mark B (levels B n (joined S L) A hub n v) (A v)) (b .long) room-at
 
--- level j + 1 needs j frames before it in the queue
+-- level j needs j frames before it in the queue
 pub bfs-low : {n : ℕ} {S L : List ℕ} {drop : ℕ → ℕ → Bool} {hub : ℕ} {M Q : List ℕ} {tail : ℕ} → Bfs n S L drop hub M Q tail tail → Low M tail
 bfs-low {M = M} b =
     record {
       mark = λ v h plain.
           lt-or-ge 0 (getD M v 0)
           (λ m.
-          let (i, p, q) = b .line .is .all v h m in
+          let (i, p, q) = b .line .all v h m in
           let short : metAt M v ≤ i + 1 = rw q at (b .short i p) in
           omega arith)
           (λ z. omega arith);

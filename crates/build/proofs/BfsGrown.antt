@@ -8,11 +8,11 @@ use native.Mathlib.Omega.{arith}
 use lib.ListN.{length, getD, set, length-set}
 use lib.Seq.{getD-set-same, getD-set-other}
 use Rattle.basics.proofs.Laws.{by-cases, cases, lt-or-ge, set-cases}
-use Rattle.build.specs.Explore.{Queue, Grown}
+use Rattle.build.specs.Explore.{Queued, Grown}
 use Rattle.build.proofs.BfsQueue.{push, room}
 
 module _ (S L : List ℕ) (u mark : ℕ) {M Q : List ℕ} {tail : ℕ} where
-  pub grown-none : Queue M Q tail → Grown S L u (getD S u 0) mark M Q tail M Q tail
+  pub grown-none : Queued M Q tail → Grown S L u (getD S u 0) mark M Q tail M Q tail
   grown-none line =
       record {
         line = line;
@@ -49,7 +49,7 @@ module _ (S L : List ℕ) (u mark : ℕ) {M Q : List ℕ} {tail : ℕ} where
       inside = omega (arith, g .long)
 
       long-queue : tail' < length Q'
-      long-queue = omega (arith, room (g .line) v inside none, g .line .is .long)
+      long-queue = omega (arith, room (g .line) v inside none, g .line .long)
 
       now-met : (w : ℕ) → 0 < getD M' w 0 → 0 < getD (set M' v mark) w 0
       now-met w m =

@@ -1,41 +1,27 @@
 -- A walk at its start: the hub alone is met, at level 0.
-use Prim.Native.Nat.{ℕ, zero, suc, _%_, _<_}
+use Prim.Native.Nat.{ℕ, _%_, _<_}
 use mathlib.Core.Path.{_≡_, refl, ap, _∙_}
 use mathlib.Core.Logic.{inl}
 use mathlib.Core.Bool.{Bool}
 use mathlib.Core.List.{List}
 use native.Mathlib.Omega.{arith}
-use lib.ListN.{length, getD, set, replicate, length-set, length-replicate, getD-replicate, List·getD-eq-default}
+use lib.ListN.{length, getD, set, replicate, length-set, length-replicate}
 use lib.Seq.{getD-set-same}
-use Rattle.basics.proofs.Laws.{lt-or-ge}
-use Rattle.build.specs.Explore.{Queue, Bfs, filled}
+use Rattle.build.specs.Explore.{Queued, Bfs}
 use Rattle.build.proofs.BfsQueue.{push}
-
-filled-zero : (n : ℕ) → filled (replicate n 0) ≡ 0
-unfolding filled
-filled-zero zero = refl
-filled-zero (suc n) = omega (arith, filled-zero n)
-
-pub zero-at : (n i : ℕ) → _≡_ {A = ℕ} (getD (replicate n 0) i 0) 0
-zero-at n i =
-    lt-or-ge i n
-    (getD-replicate n i 0 0)
-    (λ h. List·getD-eq-default (replicate n 0) 0 (omega (arith, length-replicate {A = ℕ} n 0)))
+use Rattle.build.proofs.RoomClear.{zero-at}
 
 -- rooms of 0 are an empty queue
-queue-none : (n : ℕ) → Queue (replicate n 0) (replicate n 0) 0
+queue-none : (n : ℕ) → Queued (replicate n 0) (replicate n 0) 0
 queue-none n =
     record {
-      is = record {
-        long = refl;
-        few = omega arith;
-        low = λ i h. absurd (omega arith);
-        marked = λ i h. absurd (omega arith);
-        all = λ v h m. absurd (omega (arith, zero-at n v));
-        once = λ i j h k e. omega arith;
-        rest = λ i h. zero-at n i;
-      };
-      count = filled-zero n;
+      long = refl;
+      few = omega arith;
+      low = λ i h. absurd (omega arith);
+      is-met = λ i h. absurd (omega arith);
+      all = λ v h m. absurd (omega (arith, zero-at n v));
+      once = λ i j h k e. omega arith;
+      rest = λ i h. zero-at n i;
     }
 
 pub bfs-start : (n : ℕ) (S L : List ℕ) (drop : ℕ → ℕ → Bool) (hub : ℕ) {M Q : List ℕ} → hub < n → M ≡ replicate n 0
@@ -43,7 +29,7 @@ pub bfs-start : (n : ℕ) (S L : List ℕ) (drop : ℕ → ℕ → Bool) (hub : 
 bfs-start n S L drop hub {M} {Q} h em eq =
     let z : List ℕ = replicate n 0 in
     let long : length z ≡ n = length-replicate n 0 in
-    let line : Queue (set z hub 1) (set z 0 hub) 1 =
+    let line : Queued (set z hub 1) (set z 0 hub) 1 =
     push (queue-none n) hub 1 (omega arith) (zero-at n hub) (omega arith) in
     let first : getD (set z 0 hub) 0 0 ≡ hub = getD-set-same z 0 hub 0 (omega arith) in
     let only : getD (set z hub 1) hub 0 ≡ 1 = getD-set-same z hub 1 0 (omega arith) in

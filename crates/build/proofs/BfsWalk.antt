@@ -10,9 +10,10 @@ use lib.Dec.{leb}
 use Rattle.theory.specs.Distance.{far}
 use Rattle.theory.proofs.Answer.{answer-cap}
 use Rattle.theory.proofs.Plain.{far-room}
+use Rattle.rows.specs.Entry.{RanksIn}
 use Rattle.rows.specs.Rooms.{rowAt}
 use Rattle.build.specs.Walk.{rowsIn, soFar, levelOf, metRoom}
-use Rattle.build.specs.Explore.{ExploreIn, RanksIn, RowSound, DropIn, SpreadIn, Bfs, drops, notedBy}
+use Rattle.build.specs.Explore.{ExploreIn, RowSound, DropIn, SpreadIn, Bfs, drops, notedBy}
 use Rattle.build.proofs.BfsEnd.{bfs-room}
 use Rattle.build.proofs.DropNotes.{note-long, note-forget, notes-at}
 use Rattle.build.proofs.DropWithin.{Notes, within-answer}

@@ -1,30 +1,30 @@
 -- The build's outcome: what is left when a test is refused, when a walk is refused, and when all walks are made.
 use Prim.Native.Nat.{ℕ, _*_, _<_}
 use mathlib.Core.Path.{_≡_, refl, sym, ap, _∙_}
+use mathlib.Core.Bool.{Bool, cond}
 use mathlib.Core.List.{List}
 use native.Mathlib.Omega.{arith}
-use borrow.Author.Tests.{eqb-true}
 use lib.ListN.{length, replicate, length-replicate}
-use lib.Dec.{eqb}
 use Rattle.basics.specs.Places.{sum}
+use Rattle.basics.proofs.Laws.{cond-ge}
+use Rattle.refusal.specs.Numbers.{SIZE, LENGTH, STARTS, LINKS, ORDER, ROOM, FAR}
 use Rattle.refusal.specs.declared.Refusal.{Refusal}
 use Rattle.refusal.specs.declared.Verdict.{Verdict}
 use Rattle.refusal.specs.declared.Verdict.the-variants.{Fine, Refused}
-use Rattle.refusal.proofs.Laws.{test-held}
+use Rattle.refusal.proofs.Laws.{Numbered, test-numbered, then-numbered}
+use Rattle.theory.specs.Rows.{Row}
 use Rattle.theory.specs.Plain.{rowBy}
-use Rattle.build.specs.Build.{labelsOf, countsOf, stopAt, walksTest, buildTests, MakeIn, RunIn, RunOut, Outcome, outcome, afterWalks, afterTests, buildOf, builtNumber, builtPlace, builtEntries}
+use Rattle.links.specs.Links.{startsTest, listsTest}
+use Rattle.links.specs.Order.{orderTest}
+use Rattle.build.specs.Build.{Laid, fullAt, stopAt, walksTest, buildTests, MakeIn, RunIn, RunOut, Outcome, outcome, afterWalks, afterTests, buildOf, builtNumber, builtPlace, builtEntries}
 use Rattle.build.specs.declared.Built.{Built}
 use Rattle.build.specs.declared.Built.the-variants.{Entries, Refused as NotBuilt}
-use Rattle.build.proofs.BuildTests.{Passed, tests-fine}
+use Rattle.build.proofs.RunStops.{at-end}
+use Rattle.build.proofs.BuildTests.{tests-fine}
 
 same-outcome : {a b : Built} {l l′ c c′ m m′ q q′ : List ℕ} → a ≡ b → l ≡ l′ → c ≡ c′ → m ≡ m′ → q ≡ q′
     → outcome a l c m q ≡ outcome b l′ c′ m′ q′
 same-outcome p l c m q = λ i. outcome (p i) (l i) (c i) (m i) (q i)
-
--- no walk refused: the rows are those at k
-at-end : (n w k : ℕ) (S L O : List ℕ) → walksTest n w k S L O ≡ Fine → stopAt n w k S L O ≡ k
-unfolding walksTest
-at-end n w k S L O e = eqb-true (stopAt n w k S L O) k (test-held (eqb (stopAt n w k S L O) k) _ _ e)
 
 -- ---- after the tests
 
@@ -64,61 +64,100 @@ module _ {n′ n w k : ℕ} {S L O : List ℕ} {verdict : Verdict} {labels count
       → outcome (Entries entries) labels counts met queue ≡ afterWalks n w (rowBy n S L O k) (walksTest n w k S L O)
   unfolding afterWalks
   made-out e all =
-      let at : stopAt n w k S L O ≡ k = at-end n w k S L O (sym (o .answer) ∙ e) in
-      let numbers : counts ≡ countsOf n (rowBy n S L O k) = o .numbers ∙ ap (λ (r : ℕ). countsOf n (rowBy n S L O r)) at in
-      same-outcome (ap Entries (all ∙ ap sum numbers)) (o .rows ∙ ap (λ (r : ℕ). labelsOf n w (rowBy n S L O r)) at) numbers
-      (o .met-zero) (o .queue-zero)
+      let at : stopAt n w k S L O ≡ k = at-end n w S L O k (sym (o .answer) ∙ e) in
+      let laid : Laid n w (rowBy n S L O k) labels counts = rw at at (o .laid) in
+      same-outcome (ap Entries (all ∙ ap sum (laid .numbers))) (laid .rows) (laid .numbers) (o .met-zero) (o .queue-zero)
       ∙ ap (afterWalks n w (rowBy n S L O k)) (sym e ∙ o .answer)
 
 -- ---- the whole
 
 module _ (n w k : ℕ) (S L O labels counts met queue : List ℕ) where
+  lent : Outcome
+  lent = outcome (Entries 0) labels counts met queue
+
+  made : Outcome
+  made = afterWalks n w (rowBy n S L O k) (walksTest n w k S L O)
+
+  -- what the tests say decides
+  tests-decide : {v : Verdict} → buildTests n w k S L O (length labels) (length counts) (length met) (length queue) ≡ v
+      → afterTests lent v made ≡ buildOf n w k S L O labels counts met queue
+  unfolding buildOf lent made
+  tests-decide e = ap (λ (v : Verdict). afterTests lent v made) (sym e)
+
   -- a test refused: every room as lent
   pub refused-out : (r : Refusal)
       → buildTests n w k S L O (length labels) (length counts) (length met) (length queue) ≡ Refused r
       → outcome (NotBuilt r) labels counts met queue ≡ buildOf n w k S L O labels counts met queue
-  unfolding buildOf afterTests
-  refused-out r e =
-      ap
-      (λ (v : Verdict).
-      afterTests (outcome (Entries 0) labels counts met queue) v (afterWalks n w (rowBy n S L O k) (walksTest n w k S L O)))
-      (sym e)
+  unfolding afterTests lent
+  refused-out r e = tests-decide e
 
   module _ (e : buildTests n w k S L O (length labels) (length counts) (length met) (length queue) ≡ Fine) where
-    passed : Passed n w k S L O (length labels) (length counts) (length met) (length queue)
-    passed = tests-fine n w k S L O (length labels) (length counts) (length met) (length queue) e
+    passed : MakeIn n w k S L O labels counts met queue
+    passed = tests-fine n w k S L O labels counts met queue e
 
     pub counts-are : length counts ≡ n
-    counts-are = passed .rooms-fit .counts-long
+    counts-are = passed .counts-long
 
     pub make-in : MakeIn (length counts) w k S L O labels counts met queue
-    make-in =
-        let p = passed in
-        rw counts-are
-        (record {
-          given = record { sizes = p .sizes-fit .fit; stop = p .sizes-fit .stop; block = p .block; order = p .order };
-          labels-long = p .rooms-fit .labels-long;
-          counts-long = p .rooms-fit .counts-long;
-          met-long = p .rooms-fit .met-long;
-          queue-long = p .rooms-fit .queue-long;
-        })
+    make-in = rw counts-are passed
 
     pub walked-out : (out : Outcome)
         → out ≡ afterWalks (length counts) w (rowBy (length counts) S L O k) (walksTest (length counts) w k S L O)
         → out ≡ buildOf n w k S L O labels counts met queue
-    unfolding buildOf afterTests
+    unfolding afterTests made
     walked-out out is =
-        is
-        ∙ ap (λ (j : ℕ). afterWalks j w (rowBy j S L O k) (walksTest j w k S L O)) counts-are
-        ∙ ap
-        (λ (v : Verdict).
-        afterTests (outcome (Entries 0) labels counts met queue) v (afterWalks n w (rowBy n S L O k) (walksTest n w k S L O)))
-        (sym e)
+        is ∙ ap (λ (j : ℕ). afterWalks j w (rowBy j S L O k) (walksTest j w k S L O)) counts-are ∙ tests-decide e
 
 -- ---- the paper's numbers
 
+-- a number of entries is no refusal
+pub not-made {ℓ} : {C : Type ℓ} {e : ℕ} {r : Refusal} → Entries e ≡ NotBuilt r → C
+not-made q = let z : _≡_ {A = ℕ} 0 1 = cc in absurd (omega arith)
+
+-- a refusal has a number
+abbrev Named : Built → Type 0
+Named a = (r : Refusal) → a ≡ NotBuilt r → 0 < r .number
+
+refused-named : (r : Refusal) → 0 < r .number → Named (NotBuilt r)
+unfolding builtNumber
+refused-named r h s e = omega (arith, ap builtNumber e)
+
+walks-named : (n w : ℕ) (R : ℕ → Row) (v : Verdict) → Numbered v → Named (afterWalks n w R v .answer)
+unfolding afterWalks
+walks-named n w R Fine h = λ r. not-made
+walks-named n w R (Refused s) h = refused-named s (h s refl)
+
+tests-named : (lent : Outcome) (v : Verdict) (made : Outcome) → Numbered v → Named (made .answer) → Named (afterTests lent v made .answer)
+unfolding afterTests
+tests-named lent Fine made h g = g
+tests-named lent (Refused s) made h g = refused-named s (h s refl)
+
+walks-numbered : (n w k : ℕ) (S L O : List ℕ) → Numbered (walksTest n w k S L O)
+unfolding walksTest
+walks-numbered n w k S L O =
+    let full : Bool = fullAt n w S L O (stopAt n w k S L O) in
+    test-numbered _ (cond full ROOM FAR) _ (cond-ge full {x = ROOM} {y = FAR} 1 (omega arith) (omega arith))
+
+tests-numbered : (n w k : ℕ) (S L O : List ℕ) (labels counts met queue : ℕ) → Numbered (buildTests n w k S L O labels counts met queue)
+unfolding buildTests startsTest listsTest orderTest
+tests-numbered n w k S L O labels counts met queue =
+    then-numbered _ _ (test-numbered _ SIZE 0 (omega arith))
+    (then-numbered _ _ (test-numbered _ LENGTH 0 (omega arith))
+    (then-numbered _ _ (test-numbered _ STARTS 0 (omega arith))
+    (then-numbered _ _ (test-numbered _ LINKS _ (omega arith)) (test-numbered _ ORDER _ (omega arith)))))
+
+-- every answer of the build is so
+pub build-named : (n w k : ℕ) (S L O labels counts met queue : List ℕ) → Named (buildOf n w k S L O labels counts met queue .answer)
+unfolding buildOf
+build-named n w k S L O labels counts met queue =
+    let R : ℕ → Row = rowBy n S L O k in
+    let walked : Verdict = walksTest n w k S L O in
+    tests-named (outcome (Entries 0) labels counts met queue) _ (afterWalks n w R walked)
+    (tests-numbered n w k S L O (length labels) (length counts) (length met) (length queue))
+    (walks-named n w R walked (walks-numbered n w k S L O))
+
 -- an answer is told by its number, place and entries, as no refusal has the number 0
-pub built-told : (a b : Built) → ((r : Refusal) → a ≡ NotBuilt r → 0 < r .number) → ((r : Refusal) → b ≡ NotBuilt r → 0 < r .number)
+pub built-told : (a b : Built) → Named a → Named b
     → builtNumber a ≡ builtNumber b → builtPlace a ≡ builtPlace b → builtEntries a ≡ builtEntries b → a ≡ b
 unfolding builtNumber builtPlace builtEntries
 built-told (Entries e) (Entries f) p q n m d = ap Entries d

@@ -15,14 +15,12 @@ use Rattle.refusal.specs.declared.Verdict.{Verdict}
 use Rattle.refusal.specs.declared.Verdict.the-variants.{Fine, Refused}
 use Rattle.refusal.proofs.Laws.{test-fine, test-refused, test-held, after-fine, after-refused, then-fine, then-assoc}
 use Rattle.refusal.proofs.SizeLaws.{sizes-held, places-held}
-use Rattle.theory.specs.Links.{Block, Order}
-use Rattle.theory.specs.Plain.{ones}
 use Rattle.links.specs.Links.{startsTest, listsTest, checkLinks}
 use Rattle.links.specs.Order.{orderTest, checkOrder}
 use Rattle.links.specs.Inner.{Fits}
 use Rattle.links.proofs.Links.{links-alone, links-sound}
 use Rattle.links.proofs.Order.{order-alone, order-sound}
-use Rattle.build.specs.Build.{buildSizes, buildRooms, buildTests}
+use Rattle.build.specs.Build.{buildSizes, buildRooms, buildTests, MakeIn}
 
 -- test 1 passed
 pub record InRange (n w k places : ℕ) : Type 0 where
@@ -111,26 +109,29 @@ module _ (n w k : ℕ) (S L O : List ℕ) (labels counts met queue : ℕ) where
           ∙ after-fine _ e
           ∙ sym (order-alone n O (sizes .fit .some-frames) (sizes .fit .frames) (rooms .order-long))
 
-  -- all passed
-  pub record Passed : Type 0 where
-    pub sizes-fit : InRange n w k (length L)
-    pub rooms-fit : Lengths n w (length S) (length O) labels counts met queue
-    pub block : Block n 1 S L ones
-    pub order : Order n O
-
-  pub tests-fine : buildTests n w k S L O labels counts met queue ≡ Fine → Passed
-  unfolding buildTests
-  tests-fine e =
-      let a = then-fine (test (buildSizes n w k (length L)) SIZE 0) _ e in
-      let b = then-fine (test (buildRooms n w (length S) (length O) labels counts met queue) LENGTH 0) _ (a .1) in
-      let d = then-fine (startsTest n S L) _ (b .1) in
-      let f = then-fine (listsTest n S L) (orderTest n O) (d .1) in
-      let s : InRange n w k (length L) = sizes-hold n w k (length L) (test-held _ SIZE 0 (a .0)) in
-      let l : Lengths n w (length S) (length O) labels counts met queue =
-      rooms-hold n w (length S) (length O) labels counts met queue (test-held _ LENGTH 0 (b .0)) in
-      record {
-        sizes-fit = s;
-        rooms-fit = l;
-        block = links-sound n S L (links-fit s l) (d .0) (f .0);
-        order = order-sound n O (f .1) (l .order-long);
-      }
+-- all passed
+pub tests-fine : (n w k : ℕ) (S L O labels counts met queue : List ℕ)
+    → buildTests n w k S L O (length labels) (length counts) (length met) (length queue) ≡ Fine
+    → MakeIn n w k S L O labels counts met queue
+unfolding buildTests
+tests-fine n w k S L O labels counts met queue e =
+    let a = then-fine (test (buildSizes n w k (length L)) SIZE 0) _ e in
+    let b = then-fine (test (buildRooms n w (length S) (length O) _ _ _ _) LENGTH 0) _ (a .1) in
+    let d = then-fine (startsTest n S L) _ (b .1) in
+    let f = then-fine (listsTest n S L) (orderTest n O) (d .1) in
+    let s : InRange n w k (length L) = sizes-hold n w k (length L) (test-held _ SIZE 0 (a .0)) in
+    let l : Lengths n w (length S) (length O) (length labels) (length counts) (length met) (length queue) =
+    rooms-hold n w (length S) (length O) _ _ _ _ (test-held _ LENGTH 0 (b .0)) in
+    record {
+      given =
+          record {
+            sizes = s .fit;
+            stop = s .stop;
+            block = links-sound n S L (links-fit s l) (d .0) (f .0);
+            order = order-sound n O (f .1) (l .order-long);
+          };
+      labels-long = l .labels-long;
+      counts-long = l .counts-long;
+      met-long = l .met-long;
+      queue-long = l .queue-long;
+    }

@@ -1,6 +1,6 @@
 -- The label room and the count room as tables of rows: what one more entry changes, when two are the same, and that a row
 -- is read back out of them as it was put.
-use Prim.Native.Nat.{ℕ, suc, _+_, _*_, _/_, _%_, _≤_, _<_}
+use Prim.Native.Nat.{ℕ, _+_, _*_, _/_, _%_, _≤_, _<_}
 use mathlib.Core.Path.{_≡_, refl, sym, ap, _∙_}
 use mathlib.Core.List.{List, [], _∷_, _++_}
 use native.Mathlib.Nat.{div-add-mod', div-lt-iff-lt-mul}
@@ -14,8 +14,8 @@ use Rattle.basics.proofs.Laws.{by-cases, three-ways, at-set, is-table, length-t
 use Rattle.theory.specs.Rows.{Row}
 use Rattle.rows.specs.Entry.{entryOf, encode}
 use Rattle.rows.specs.Rooms.{rowAt, part}
-use Rattle.rows.proofs.Laws.{length-encode, encode-append, row-inside, length-part, getD-part}
-use Rattle.build.specs.Build.{labelsOf, countsOf}
+use Rattle.rows.proofs.Laws.{length-encode, encode-append, row-place, length-part, part-table}
+use Rattle.build.specs.Build.{labelsOf, countsOf, Laid}
 
 -- ---- entries of a row
 
@@ -40,10 +40,6 @@ other-entry x a j h =
 
 -- ---- places
 
--- place c of row v lies in the label room
-pub row-place : {n w v c : ℕ} → v < n → c < w → v * w + c < n * w
-row-place {n} {w} {v} {c} h k = omega (arith, row-inside {v = v} {n = n} {c = suc c} {w = w} h k)
-
 pub frame-of : {n w p : ℕ} → 1 ≤ w → p < n * w → p / w < n
 frame-of h k = div-lt-iff-lt-mul h .1 k
 
@@ -55,26 +51,27 @@ pub length-counts : (n : ℕ) (R : ℕ → Row) → length (countsOf n R) ≡ n
 unfolding countsOf
 length-counts n R = length-table n (λ v. length (R v))
 
-pub label-at : (n w : ℕ) (R : ℕ → Row) (p : ℕ) → p < n * w → getD (labelsOf n w R) p 0 ≡ getD (encode (R (p / w))) (p % w) 0
-unfolding labelsOf
-label-at n w R p h = getD-table (n * w) (λ q. getD (encode (R (q / w))) (q % w) 0) p 0 h
-
 pub count-at : (n : ℕ) (R : ℕ → Row) (v : ℕ) → v < n → getD (countsOf n R) v 0 ≡ length (R v)
 unfolding countsOf
 count-at n R v h = getD-table n (λ u. length (R u)) v 0 h
 
+pub laid-long : {n w : ℕ} {R : ℕ → Row} {labels counts : List ℕ} → Laid n w R labels counts
+    → (length labels ≡ n * w) × (length counts ≡ n)
+laid-long {n} {w} {R} laid = (ap length (laid .rows) ∙ length-labels n w R, ap length (laid .numbers) ∙ length-counts n R)
+
 -- ---- the same rows, the same rooms
 
-pub labels-ext : (n w : ℕ) (R R′ : ℕ → Row) → 1 ≤ w → ((v : ℕ) → v < n → R v ≡ R′ v) → labelsOf n w R ≡ labelsOf n w R′
-unfolding labelsOf
-labels-ext n w R R′ wide same =
-    table-ext (n * w) (λ p. getD (encode (R (p / w))) (p % w) 0) (λ p. getD (encode (R′ (p / w))) (p % w) 0)
-    (λ p h. ap (λ (x : Row). getD (encode x) (p % w) 0) (same (p / w) (frame-of wide h)))
-
-pub counts-ext : (n : ℕ) (R R′ : ℕ → Row) → ((v : ℕ) → v < n → R v ≡ R′ v) → countsOf n R ≡ countsOf n R′
-unfolding countsOf
-counts-ext n R R′ same =
-    table-ext n (λ v. length (R v)) (λ v. length (R′ v)) (λ v h. ap (λ (x : Row). length x) (same v h))
+pub laid-ext : {n w : ℕ} {R : ℕ → Row} (R′ : ℕ → Row) {labels counts : List ℕ} → 1 ≤ w → ((v : ℕ) → v < n → R v ≡ R′ v)
+    → Laid n w R labels counts → Laid n w R′ labels counts
+unfolding labelsOf countsOf
+laid-ext {n} {w} R′ wide same laid =
+    record {
+      rows =
+          laid .rows
+          ∙ table-ext (n * w) _ (λ p. getD (encode (R′ (p / w))) (p % w) 0)
+          (λ p h. ap (λ (x : Row). getD (encode x) (p % w) 0) (same (p / w) (frame-of wide h)));
+      numbers = laid .numbers ∙ table-ext n _ (λ v. length (R′ v)) (λ v h. ap (λ (x : Row). length x) (same v h));
+    }
 
 -- ---- one more entry behind the row of v
 
@@ -94,7 +91,7 @@ module _ (n w : ℕ) (R R′ : ℕ → Row) (v : ℕ) (a : ℕ × ℕ) (inside :
       rw (q, more) (sym (other-entry (R v) a (p % w) off)))
       (λ q. ap (λ (x : Row). getD (encode x) (p % w) 0) (sym (same (p / w) q)))
 
-  pub labels-gain : length (R v) < w → set (labelsOf n w R) (v * w + length (R v)) (entryOf (a .0) (a .1)) ≡ labelsOf n w R′
+  labels-gain : length (R v) < w → set (labelsOf n w R) (v * w + length (R v)) (entryOf (a .0) (a .1)) ≡ labelsOf n w R′
   unfolding labelsOf
   labels-gain room =
       let e : ℕ = entryOf (a .0) (a .1) in
@@ -107,7 +104,7 @@ module _ (n w : ℕ) (R R′ : ℕ → Row) (v : ℕ) (a : ℕ × ℕ) (inside :
       at-set was at p e 0 (getD (encode (R′ (p / w))) (p % w) 0) fits (there p room)
       (λ ne. getD-table (n * w) (λ q. getD (encode (R (q / w))) (q % w) 0) p 0 h ∙ elsewhere p ne))
 
-  pub counts-gain : set (countsOf n R) v (length (R v) + 1) ≡ countsOf n R′
+  counts-gain : set (countsOf n R) v (length (R v) + 1) ≡ countsOf n R′
   unfolding countsOf
   counts-gain =
       let was : List ℕ = table n (λ u. length (R u)) in
@@ -119,6 +116,11 @@ module _ (n w : ℕ) (R R′ : ℕ → Row) (v : ℕ) (a : ℕ × ℕ) (inside :
       (λ (e : u ≡ v). sym grown ∙ ap (λ (k : ℕ). length (R′ k)) (sym e))
       (λ ne. getD-table n (λ k. length (R k)) u 0 h ∙ ap (λ (x : Row). length x) (sym (same u ne))))
 
+  pub laid-gain : {labels counts : List ℕ} → length (R v) < w → Laid n w R labels counts
+      → Laid n w R′ (set labels (v * w + getD counts v 0) (entryOf (a .0) (a .1))) (set counts v (getD counts v 0 + 1))
+  laid-gain room laid =
+      rw (laid .rows, laid .numbers, count-at n R v inside) (record { rows = labels-gain room; numbers = counts-gain })
+
 -- ---- a row read back
 
 -- the used part of row v holds the entries of v's row
@@ -127,11 +129,8 @@ module _ (n w : ℕ) (R : ℕ → Row) (v c : ℕ) (h : v < n) (fits : c ≤ w) 
   long = length-part w (labelsOf n w R) v c h fits (length-labels n w R)
 
   entry-is : (i : ℕ) → i < c → getD (part w (labelsOf n w R) v c) i 0 ≡ getD (encode (R v)) i 0
-  entry-is i low =
-      let here : i < w = omega arith in
-      getD-part w (labelsOf n w R) v c i low
-      ∙ label-at n w R (v * w + i) (row-place h here)
-      ∙ rw (digits-div v here, digits-mod v here)
+  unfolding labelsOf
+  entry-is i low = part-table n w (λ u x. getD (encode (R u)) x 0) v c i h fits low
 
   part-is : part w (labelsOf n w R) v c ≡ encode (R v)
   part-is =

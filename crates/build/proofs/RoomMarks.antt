@@ -6,19 +6,19 @@ use mathlib.Core.Bool.{Bool, true, false, cond, _&&_, and-false}
 use mathlib.Core.List.{List, [], _∷_, _++_}
 use native.Mathlib.Decide.{ℕ-discrete}
 use native.Mathlib.Omega.{arith}
-use borrow.Author.Tests.{lt-ltb, le-ltb, ltb-true, leb-false}
+use borrow.Author.Tests.{lt-ltb, le-ltb, ltb-true, leb-false, not-true}
 use lib.ListN.{length, getD, set}
 use lib.Dec.{leb, ltb}
 use Rattle.basics.specs.Places.{some, stands}
-use Rattle.basics.proofs.Laws.{bcase, by-cases, lt-or-ge, not-both, both, both-true, of-not-true, not-of-true, not-of-false, cond-true, cond-false, some-one, some-not, some-none, stands-at, stands-by, stands-none, stands-other}
+use Rattle.basics.proofs.Laws.{bcase, by-cases, lt-or-ge, not-both, both, both-true, not-of-true, not-of-false, cond-true, cond-false, some-one, some-not, some-none, stands-at, stands-not, stands-none, stands-other}
 use Rattle.theory.specs.Rows.{Row}
 use Rattle.rows.specs.Entry.{entryOf}
-use Rattle.build.specs.Build.{labelsOf, countsOf}
+use Rattle.build.specs.Build.{Laid}
 use Rattle.build.specs.Walk.{rowsIn, mark}
 use Rattle.build.specs.Explore.{Queued}
-use Rattle.build.specs.Settle.{isKept, lacksRoom, isFar, fitsAll, noneFar, gain, rowsAfter, labelsAfter, countsAfter, SettleIn, settleOf}
+use Rattle.build.specs.Settle.{isKept, lacksRoom, isFar, fitsAll, noneFar, gain, rowsAfter, SettleIn, settleOf}
 use Rattle.build.specs.declared.settle.Walked.the-variants.{Made, Full}
-use Rattle.build.proofs.RoomLaws.{labels-gain, counts-gain, labels-ext, counts-ext, count-at}
+use Rattle.build.proofs.RoomLaws.{laid-gain, laid-ext, count-at}
 
 -- ---- marks
 
@@ -93,7 +93,7 @@ pub fits-each : (w : ℕ) (counts met : List ℕ) (v : ℕ) → fitsAll w counts
 unfolding fitsAll
 fits-each w counts met v e h =
     some-not (λ u. lacksRoom w (getD counts u 0) (getD met u 0)) 0 (length met) v
-    (of-not-true (some (λ u. lacksRoom w (getD counts u 0) (getD met u 0)) 0 (length met)) e) (omega arith) (omega arith)
+    (not-true (some (λ u. lacksRoom w (getD counts u 0) (getD met u 0)) 0 (length met)) e) (omega arith) (omega arith)
 
 -- ---- rows stored along the queue
 
@@ -121,22 +121,18 @@ module _ (queue : List ℕ) (R R′ : ℕ → Row) where
 
   pub partly-after : (i : ℕ) → partly queue (i + 1) R R′ (getD queue i 0) ≡ R′ (getD queue i 0)
   unfolding partly
-  partly-after i = cond-true _ _ (stands-at (λ j. getD queue j 0) (i + 1) i (omega arith))
+  partly-after i = cond-true _ _ (stands-at (λ j. getD queue j 0) (i + 1) i (omega arith) refl)
 
   pub partly-before : (i : ℕ) → ((j : ℕ) → j < i → getD queue j 0 ≡ getD queue i 0 → ⊥)
       → partly queue i R R′ (getD queue i 0) ≡ R (getD queue i 0)
   unfolding partly
   partly-before i once =
-      bcase (stood queue i (getD queue i 0))
-      (λ e.
-      let (j, h, same) = stands-by (λ j. getD queue j 0) i (getD queue i 0) e in
-      absurd (once j h same))
-      (cond-false _ _)
+      cond-false _ _ (stands-not (λ j. getD queue j 0) i (getD queue i 0) once)
 
   pub partly-all : (tail v : ℕ) → ((i : ℕ) × (i < tail) × (getD queue i 0 ≡ v)) → partly queue tail R R′ v ≡ R′ v
   unfolding partly
   partly-all tail v at =
-      cond-true _ _ (ap (stands (λ j. getD queue j 0) tail) (sym (at .2)) ∙ stands-at (λ j. getD queue j 0) tail (at .0) (at .1))
+      cond-true _ _ (stands-at (λ j. getD queue j 0) tail (at .0) (at .1) (at .2))
 
   pub partly-same : (tail v : ℕ) → R′ v ≡ R v → partly queue tail R R′ v ≡ R′ v
   unfolding partly
@@ -197,53 +193,26 @@ module _ (rank : ℕ) {w : ℕ} {labels counts met queue : List ℕ} {tail : ℕ
       ∙ after-kept w rank labels counts met (getD queue i 0) k
       ∙ ap (λ (x : Row). x ++ ((rank, getD met (getD queue i 0) 0 - 1) ∷ [])) (sym (still i h))
 
-  -- what a turn stores in the label room
-  pub labels-step : (i : ℕ) (L C : List ℕ) → i < tail → L ≡ labelsOf (length met) w (turn i)
-      → C ≡ countsOf (length met) (turn i)
-      → cond (isKept (getD met (getD queue i 0) 0))
+  -- what a turn stores
+  pub laid-step : (i : ℕ) {L C L′ C′ : List ℕ} → i < tail → Laid (length met) w (turn i) L C
+      → L′
+      ≡ cond (isKept (getD met (getD queue i 0) 0))
       (set L (getD queue i 0 * w + getD C (getD queue i 0) 0) (entryOf rank (getD met (getD queue i 0) 0 - 1))) L
-      ≡ labelsOf (length met) w (turn (i + 1))
-  labels-step i L C h p q =
+      → C′ ≡ cond (isKept (getD met (getD queue i 0) 0)) (set C (getD queue i 0) (getD C (getD queue i 0) 0 + 1)) C
+      → Laid (length met) w (turn (i + 1)) L′ C′
+  laid-step i h laid p q =
       let v : ℕ = getD queue i 0 in
       let low : v < length met = s .queued .low i h in
-      rw (p, q)
-      (bcase (isKept (getD met v 0))
+      bcase (isKept (getD met v 0))
       (λ k.
       let room : length (turn i v) < w = rw (still i h) (room-left v low k) in
-      cond-true _ _ k
-      ∙ rw (count-at (length met) (turn i) v low)
-      (labels-gain (length met) w (turn i) (turn (i + 1)) v (rank, getD met v 0 - 1) low
-      (grown i h k) (others i) room))
-      (λ k.
-      cond-false _ _ k
-      ∙ labels-ext (length met) w (turn i) (turn (i + 1)) (s .wide) (λ u l. idle i h k u)))
-
-  -- what it stores in the count room
-  pub counts-step : (i : ℕ) (C : List ℕ) → i < tail → C ≡ countsOf (length met) (turn i)
-      → cond (isKept (getD met (getD queue i 0) 0)) (set C (getD queue i 0) (getD C (getD queue i 0) 0 + 1)) C
-      ≡ countsOf (length met) (turn (i + 1))
-  counts-step i C h q =
-      let v : ℕ = getD queue i 0 in
-      let low : v < length met = s .queued .low i h in
-      rw q
-      (bcase (isKept (getD met v 0))
-      (λ k.
-      cond-true _ _ k
-      ∙ rw (count-at (length met) (turn i) v low)
-      (counts-gain (length met) w (turn i) (turn (i + 1)) v (rank, getD met v 0 - 1) low
-      (grown i h k) (others i)))
-      (λ k.
-      cond-false _ _ k
-      ∙ counts-ext (length met) (turn i) (turn (i + 1)) (λ u l. idle i h k u)))
+      rw (p ∙ cond-true _ _ k, q ∙ cond-true _ _ k)
+      (laid-gain (length met) w (turn i) (turn (i + 1)) v (rank, getD met v 0 - 1) low (grown i h k) (others i) room laid))
+      (λ k. rw (p ∙ cond-false _ _ k, q ∙ cond-false _ _ k) (laid-ext (turn (i + 1)) (s .wide) (λ u l. idle i h k u) laid))
 
   -- before any turn the rooms hold the rows before the walk
-  pub labels-begin : labels ≡ labelsOf (length met) w (turn 0)
-  labels-begin =
-      s .laid .places
-      ∙ labels-ext (length met) w before (turn 0) (s .wide) (λ v h. sym (partly-none queue before after v))
-
-  pub counts-begin : counts ≡ countsOf (length met) (turn 0)
-  counts-begin = s .laid .numbers ∙ counts-ext (length met) before (turn 0) (λ v h. sym (partly-none queue before after v))
+  pub laid-begin : Laid (length met) w (turn 0) labels counts
+  laid-begin = laid-ext (turn 0) (s .wide) (λ v h. sym (partly-none queue before after v)) (s .laid)
 
   -- when all have had their turn the rows are those after the walk: a frame not met gets nothing
   all-turns : (v : ℕ) → v < length met → turn tail v ≡ after v
@@ -252,11 +221,8 @@ module _ (rank : ℕ) {w : ℕ} {labels counts met queue : List ℕ} {tail : ℕ
       (λ k. partly-all queue before after tail v (s .queued .all v h (kept-met (getD met v 0) k)))
       (λ k. partly-same queue before after tail v (after-not w rank labels counts met v k))
 
-  pub labels-end : labelsOf (length met) w (turn tail) ≡ labelsAfter w rank labels counts met
-  labels-end = labels-ext (length met) w (turn tail) after (s .wide) all-turns
-
-  pub counts-end : countsOf (length met) (turn tail) ≡ countsAfter w rank labels counts met
-  counts-end = counts-ext (length met) (turn tail) after all-turns
+  pub laid-end : {L C : List ℕ} → Laid (length met) w (turn tail) L C → Laid (length met) w after L C
+  laid-end = laid-ext after (s .wide) all-turns
 
 -- ---- which way the walk ends
 

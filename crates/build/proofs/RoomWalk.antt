@@ -12,13 +12,13 @@ use Rattle.basics.proofs.Laws.{bcase, lt-or-ge, same-truth, cond-true, cond-fal
 use Rattle.theory.specs.Distance.{far}
 use Rattle.theory.specs.Rows.{Row, keep}
 use Rattle.theory.specs.Walk.{walkRow}
-use Rattle.build.specs.Build.{labelsOf, countsOf}
+use Rattle.build.specs.Build.{Laid}
 use Rattle.build.specs.Walk.{rowsIn, soFar, levelOf, kept, mark, metRoom, walkFits}
 use Rattle.build.specs.Explore.{ExploreIn}
 use Rattle.build.specs.Settle.{isKept, lacksRoom, isFar, fitsAll, noneFar, gain, rowsAfter, decided, settleOf, walkedRows, walkNear, walkOf, ifMade, WalkOut}
 use Rattle.build.specs.declared.settle.Walked.{Walked}
 use Rattle.build.proofs.BfsWalk.{capped}
-use Rattle.build.proofs.RoomLaws.{labels-ext, counts-ext}
+use Rattle.build.proofs.RoomLaws.{laid-ext}
 use Rattle.build.proofs.RoomMarks.{mark-yes, mark-drop, mark-none, kept-mark, unmet-mark, dropped-mark}
 
 -- ---- one mark
@@ -135,28 +135,17 @@ module _ {n w : ℕ} {S L labels counts : List ℕ} {hub : ℕ} {met₀ queue₀
     after-is : (rank v : ℕ) → v < n → rowsAfter w rank labels counts met v ≡ walkedRows n w S L labels counts rank hub v
     after-is rank v h = ap (λ (m : List ℕ). rowsAfter w rank labels counts m v) is ∙ rows-are rank v h
 
-    stored-labels : (rank : ℕ) → labelsOf (length met) w (rowsAfter w rank labels counts met)
-        ≡ labelsOf n w (walkedRows n w S L labels counts rank hub)
-    stored-labels rank =
-        rw met-long
-        (labels-ext n w (rowsAfter w rank labels counts met) (walkedRows n w S L labels counts rank hub) (given .wide) (after-is rank))
-
-    stored-counts : (rank : ℕ) → countsOf (length met) (rowsAfter w rank labels counts met)
-        ≡ countsOf n (walkedRows n w S L labels counts rank hub)
-    stored-counts rank =
-        rw met-long (counts-ext n (rowsAfter w rank labels counts met) (walkedRows n w S L labels counts rank hub) (after-is rank))
-
     -- what the second half leaves, told by levels
     pub walk-left : (rank : ℕ) → {walked : Walked} {labels′ counts′ met′ queue′ : List ℕ} → walked ≡ settleOf w counts met
-        → labels′ ≡ ifMade walked (labelsOf (length met) w (rowsAfter w rank labels counts met)) labels
-        → counts′ ≡ ifMade walked (countsOf (length met) (rowsAfter w rank labels counts met)) counts
+        → Laid (length met) w (λ v. ifMade walked (rowsAfter w rank labels counts met v) (rowsIn w labels counts v)) labels′ counts′
         → met′ ≡ replicate (length met) 0 → queue′ ≡ replicate (length met) 0
         → WalkOut n w S L labels counts rank hub walked labels′ counts′ met′ queue′
-    walk-left rank {walked} answer rows numbers m q =
+    walk-left rank {walked} answer laid m q =
         record {
           answer = answer ∙ settled-is;
-          rows = rows ∙ ap (λ (l : List ℕ). ifMade walked l labels) (stored-labels rank);
-          numbers = numbers ∙ ap (λ (l : List ℕ). ifMade walked l counts) (stored-counts rank);
+          laid =
+              laid-ext _ (given .wide) (λ v h. ap (λ (x : Row). ifMade walked x (rowsIn w labels counts v)) (after-is rank v h))
+              (rw met-long at laid);
           met-zero = m ∙ ap (λ (j : ℕ). replicate j 0) met-long;
           queue-zero = q ∙ ap (λ (j : ℕ). replicate j 0) met-long;
         }

@@ -7,23 +7,24 @@ use mathlib.Core.List.{List, [], _∷_, _++_}
 use native.Mathlib.Omega.{arith}
 use borrow.Author.Tests.{lt-ltb, le-ltb, ltb-true, le-leb, leb-true}
 use lib.ListN.{length, getD, length-append}
+use lib.Seq.{getD-append-seam}
 use lib.Dec.{leb, ltb}
 use Rattle.basics.proofs.Laws.{bcase, same-truth, some-ext}
 use Rattle.theory.specs.Distance.{far}
-use Rattle.theory.specs.Links.{Block, Order, hubOf}
+use Rattle.theory.specs.Links.{hubOf}
 use Rattle.theory.specs.Rows.{Row, hubs, keep, ruleRow}
 use Rattle.theory.specs.Walk.{walkRow}
-use Rattle.theory.specs.Plain.{ones, joinsTo, rowBy}
-use Rattle.theory.proofs.Rule.{rankAt, joinsAt, snoc-last}
+use Rattle.theory.specs.Plain.{joinsTo, rowBy}
+use Rattle.theory.proofs.Rule.{rankAt, joinsAt}
 use Rattle.theory.proofs.Plain.{plain-rising, plain-places, walk-out}
 use Rattle.rows.specs.Entry.{rankOf, decode}
 use Rattle.rows.specs.Rooms.{rowAt}
-use Rattle.rows.proofs.Laws.{Fits, fits-none, fits-more, decode-encode, rank-entry, getD-encode}
-use Rattle.build.specs.Build.{labelsOf, countsOf, fullAt, farFrame, farAt}
+use Rattle.rows.proofs.Laws.{length-encode, decode-encode, decoded}
+use Rattle.build.specs.Build.{labelsOf, countsOf, Laid, fullAt, farFrame, farAt, Tested}
 use Rattle.build.specs.Explore.{SoundRows}
 use Rattle.build.specs.Walk.{rowsIn, soFar, levelOf, kept, walkFits}
-use Rattle.build.specs.Settle.{Laid, walkedRows, walkNear, decided, walkOf}
-use Rattle.build.proofs.RoomLaws.{row-is, labels-ext, counts-ext, count-at}
+use Rattle.build.specs.Settle.{walkedRows, walkNear, decided, walkOf}
+use Rattle.build.proofs.RoomLaws.{row-is, laid-ext, count-at}
 
 -- ---- one kept entry
 
@@ -50,9 +51,9 @@ kept-same r m a m′ a′ x b =
     rw (e, f)
     (λ (same : x ++ ((r, m) ∷ []) ≡ x ++ ((r, m′) ∷ [])).
     ap b
-    (ap (λ (z : ℕ × ℕ). z .1) (sym (snoc-last x (r, m) (length x) refl))
+    (ap (λ (z : ℕ × ℕ). z .1) (sym (getD-append-seam x (r, m) [] (0, 0)))
     ∙ ap (λ (y : Row). joinsAt y (length x)) same
-    ∙ ap (λ (z : ℕ × ℕ). z .1) (snoc-last x (r, m′) (length x) refl))))
+    ∙ ap (λ (z : ℕ × ℕ). z .1) (getD-append-seam x (r, m′) [] (0, 0)))))
     (λ f.
     rw (e, f)
     (λ (same : x ++ ((r, m) ∷ []) ≡ x). absurd (omega (arith, ap length same, length-append x ((r, m) ∷ []))))))
@@ -63,25 +64,15 @@ kept-same r m a m′ a′ x b =
     (λ (same : x ≡ x ++ ((r, m′) ∷ [])). absurd (omega (arith, ap length same, length-append x ((r, m′) ∷ [])))))
     (λ f. rw (e, f) (λ same. refl)))
 
--- ---- entries that fit
-
-fits-places : (x : Row) → ((i : ℕ) → i < length x → (rankAt x i < 65536) × (joinsAt x i < 65536)) → Fits x
-fits-places [] all = fits-none
-fits-places (e ∷ x) all =
-    fits-more (all 0 (omega arith) .0) (all 0 (omega arith) .1) (fits-places x (λ i h. all (suc i) (omega arith)))
-
 -- ---- rooms that hold the rule's rows at rank r
 
 -- a block, an order, and rows of the rule at rank r that are at most w long
-pub record Ruled (n w : ℕ) (S L O : List ℕ) (r : ℕ) : Type 0 where
-  pub block : Block n 1 S L ones
-  pub order : Order n O
-  pub frames : n ≤ 4096
-  pub wide : 1 ≤ w
-  pub below : r ≤ n
+pub record Ruled (n w k : ℕ) (S L O : List ℕ) (r : ℕ) : Type 0 where
+  pub given : Tested n w k S L O
+  pub below : r ≤ k
   pub fit : (v : ℕ) → v < n → length (rowBy n S L O r v) ≤ w
 
-module _ {n w : ℕ} {S L O : List ℕ} {r : ℕ} (g : Ruled n w S L O r) where
+module _ {n w k : ℕ} {S L O : List ℕ} {r : ℕ} (g : Ruled n w k S L O r) where
   abbrev pub rows : ℕ → Row
   rows = rowBy n S L O r
 
@@ -91,32 +82,27 @@ module _ {n w : ℕ} {S L O : List ℕ} {r : ℕ} (g : Ruled n w S L O r) where
   abbrev pub counts : List ℕ
   counts = countsOf n (rowBy n S L O r)
 
-  rule-fits : (v : ℕ) → v < n → Fits (rows v)
-  rule-fits v h =
-      fits-places (rows v)
-      (λ i l.
-      let at : (rankAt (rows v) i < r) × (joinsAt (rows v) i < n) = plain-places (g .block) (g .order) r v i (g .below) h l in
-      (omega arith, omega arith))
-
   pub rows-back : (v : ℕ) → v < n → rowsIn w labels counts v ≡ rows v
   unfolding rowsIn
-  rows-back v h = ap decode (row-is n w rows v h (g .fit v h)) ∙ decode-encode (rule-fits v h)
+  rows-back v h =
+      ap decode (row-is n w rows v h (g .fit v h))
+      ∙ decode-encode (rows v)
+      (λ i l.
+      let few : n ≤ 4096 = g .given .sizes .frames in
+      let low : r ≤ n = omega (arith, g .below, g .given .stop) in
+      let at : (rankAt (rows v) i < r) × (joinsAt (rows v) i < n) = plain-places (g .given .block) (g .given .order) r v i low h l in
+      (omega arith, omega arith))
 
-  pub laid-back : Laid n w labels counts
+  pub laid-back : Laid n w (rowsIn w labels counts) labels counts
   laid-back =
-      record {
-        places =
-            labels-ext n w rows (rowsIn w labels counts) (g .wide) (λ v h. sym (rows-back v h));
-        numbers =
-            counts-ext n rows (rowsIn w labels counts) (λ v h. sym (rows-back v h));
-      }
+      laid-ext (rowsIn w labels counts) (g .given .sizes .some-width) (λ v h. sym (rows-back v h)) (record { rows = refl; numbers = refl })
 
   rank-back : (v i : ℕ) → v < n → i < length (rows v) → rankOf (getD (rowAt w labels counts v) i 0) ≡ rankAt (rows v) i
+  unfolding rowsIn
   rank-back v i h l =
-      let at : (rankAt (rows v) i < r) × (joinsAt (rows v) i < n) = plain-places (g .block) (g .order) r v i (g .below) h l in
-      ap (λ (row : List ℕ). rankOf (getD row i 0)) (row-is n w rows v h (g .fit v h))
-      ∙ ap rankOf (getD-encode (rows v) i l)
-      ∙ rank-entry (rankAt (rows v) i) (joinsAt (rows v) i) (omega arith)
+      decoded (rowAt w labels counts v) (rows-back v h) i
+      (omega (arith, ap (λ (row : List ℕ). length row) (row-is n w rows v h (g .fit v h)), length-encode (rows v)))
+      .0
 
   pub sound-back : SoundRows n w labels counts
   sound-back =
@@ -137,7 +123,7 @@ module _ {n w : ℕ} {S L O : List ℕ} {r : ℕ} (g : Ruled n w S L O r) where
     -- the walk of rank r makes the rows at r + 1
     pub rows-next : (v : ℕ) → v < n → walkedRows n w S L labels counts r (hubOf O r) v ≡ rowBy n S L O (suc r) v
     unfolding walkedRows
-    rows-next v h = walk-out (g .block) (g .order) (rowsIn w labels counts) r v less h rows-back
+    rows-next v h = walk-out (g .given .block) (g .given .order) (rowsIn w labels counts) r v less h rows-back
 
     full-frame : (v : ℕ) → v < n
         → kept n w S L labels counts (hubOf O r) v && leb w (getD counts v 0) ≡ ltb w (length (rowBy n S L O (suc r) v))

@@ -4,33 +4,33 @@ use Prim.Native.Nat.{ℕ, _+_, _*_, _≤_, _<_}
 use mathlib.Core.Path.{_≡_, refl, sym, ap, _∙_}
 use mathlib.Core.Bool.{true, false, not}
 use mathlib.Core.List.{List}
-use native.Mathlib.Decide.{ℕ-discrete}
 use native.Mathlib.Numerals.{add-one}
 use native.Mathlib.Omega.{arith}
+use borrow.Author.Count.{below-more}
 use lib.ListN.{length, replicate, length-replicate}
-use Rattle.basics.proofs.Laws.{bcase, by-cases, neither, either-left, either-right, cond-true, cond-false}
+use Rattle.basics.proofs.Laws.{bcase, neither, either-left, either-right, cond-true, cond-false}
 use Rattle.refusal.specs.declared.Refusal.{Refusal}
 use Rattle.refusal.specs.declared.Verdict.{Verdict}
 use Rattle.refusal.specs.declared.Verdict.the-variants.{Fine, Refused}
 use Rattle.refusal.proofs.Laws.{fine-not-refused}
 use Rattle.theory.specs.Links.{hubOf}
+use Rattle.theory.specs.Rows.{Row}
 use Rattle.theory.specs.Plain.{rowBy}
-use Rattle.build.specs.Build.{labelsOf, countsOf, fullAt, farAt, stopAt, walksTest, RunIn, RunOut}
+use Rattle.build.specs.Build.{labelsOf, countsOf, Laid, fullAt, farAt, stops, stopAt, walksTest, RunIn, RunOut}
 use Rattle.build.specs.Settle.{WalkIn, WalkOut, decided, walkedRows, ifMade, verdictOf}
 use Rattle.build.specs.declared.settle.Walked.{Walked}
 use Rattle.build.specs.declared.settle.Walked.the-variants.{Made, Full, Far}
-use Rattle.build.proofs.RoomLaws.{labels-ext, counts-ext, length-labels, length-counts}
-use Rattle.build.proofs.RunLaws.{Ruled, laid-back, sound-back, rows-next, walk-is}
-use Rattle.build.proofs.RunStops.{stops, labels-empty, counts-empty, fit-upto, stop-here, run-full, run-far, stop-end, run-end}
+use Rattle.build.proofs.RoomLaws.{laid-long, laid-ext, length-labels}
+use Rattle.build.proofs.RunLaws.{Ruled, rows-back, laid-back, sound-back, rows-next, walk-is}
+use Rattle.build.proofs.RunStops.{laid-empty, fit-upto, stop-here, run-full, run-far, run-end, at-end}
 
-made-is : {walked : Walked} → walked ≡ Made → (x y : List ℕ) → ifMade walked x y ≡ x
+made-is : {walked : Walked} → walked ≡ Made → (x y : Row) → ifMade walked x y ≡ x
 unfolding ifMade
 made-is e x y = ap (λ (z : Walked). ifMade z x y) e
 
 pub record Running (n w k : ℕ) (S L O : List ℕ) (r : ℕ) (labels counts met queue noted : List ℕ) : Type 0 where
   pub upto : r ≤ k
-  pub rows : labels ≡ labelsOf n w (rowBy n S L O r)
-  pub numbers : counts ≡ countsOf n (rowBy n S L O r)
+  pub laid : Laid n w (rowBy n S L O r) labels counts
   pub met-zero : met ≡ replicate n 0
   pub queue-zero : queue ≡ replicate n 0
   pub noted-far : noted ≡ replicate 4096 65536
@@ -41,8 +41,7 @@ pub run-begins : {n w k : ℕ} {S L O labels counts met queue noted : List ℕ} 
 run-begins {n} {w} {k} {S} {L} {O} i =
     record {
       upto = omega arith;
-      rows = i .labels-zero ∙ sym (labels-empty n w S L O);
-      numbers = i .counts-zero ∙ sym (counts-empty n w S L O);
+      laid = rw (i .labels-zero, i .counts-zero) (laid-empty n w S L O);
       met-zero = i .met-zero;
       queue-zero = i .queue-zero;
       noted-far = i .noted-far;
@@ -53,11 +52,11 @@ pub run-ends : {n w k : ℕ} {S L O labels counts met queue noted : List ℕ} {r
     → Running n w k S L O r labels counts met queue noted → RunOut n w k S L O Fine labels counts met queue
 run-ends {n} {w} {k} {S} {L} {O} {r = r} h s =
     let none : (j : ℕ) → j < k → stops n w S L O j ≡ false = λ j l. s .none j (omega arith) in
-    let at : r ≡ stopAt n w k S L O = omega (arith, stop-end n w S L O k none, s .upto) in
+    let fine : walksTest n w k S L O ≡ Fine = run-end n w S L O k none in
+    let at : r ≡ stopAt n w k S L O = omega (arith, at-end n w S L O k fine, s .upto) in
     record {
-      answer = sym (run-end n w S L O k none);
-      rows = s .rows ∙ ap (λ (j : ℕ). labelsOf n w (rowBy n S L O j)) at;
-      numbers = s .numbers ∙ ap (λ (j : ℕ). countsOf n (rowBy n S L O j)) at;
+      answer = sym fine;
+      laid = rw at at (s .laid);
       met-zero = s .met-zero;
       queue-zero = s .queue-zero;
     }
@@ -73,13 +72,10 @@ pub record AsLong (labels₀ counts₀ met₀ queue₀ noted₀ labels counts me
 pub run-lengths : {n w k r : ℕ} {S L O labels₀ counts₀ met₀ queue₀ noted₀ labels counts met queue noted : List ℕ}
     → RunIn n w k S L O labels₀ counts₀ met₀ queue₀ noted₀ → Running n w k S L O r labels counts met queue noted
     → AsLong labels₀ counts₀ met₀ queue₀ noted₀ labels counts met queue noted
-run-lengths {n} {w} {r = r} {S} {L} {O} i s =
+run-lengths {n} {w} i s =
     record {
-      of-labels =
-          ap length (s .rows)
-          ∙ length-labels n w (rowBy n S L O r)
-          ∙ sym (ap length (i .labels-zero) ∙ length-replicate (n * w) 0);
-      of-counts = ap length (s .numbers) ∙ length-counts n (rowBy n S L O r) ∙ sym (ap length (i .counts-zero) ∙ length-replicate n 0);
+      of-labels = laid-long (s .laid) .0 ∙ sym (ap length (i .labels-zero) ∙ length-replicate (n * w) 0);
+      of-counts = laid-long (s .laid) .1 ∙ sym (ap length (i .counts-zero) ∙ length-replicate n 0);
       of-met = ap length (s .met-zero ∙ sym (i .met-zero));
       of-queue = ap length (s .queue-zero ∙ sym (i .queue-zero));
       of-noted = ap length (s .noted-far ∙ sym (i .noted-far));
@@ -91,24 +87,16 @@ module _ {n w k : ℕ} {S L O labels₀ counts₀ met₀ queue₀ noted₀ label
   below : r < n
   below = omega (arith, i .given .stop)
 
-  ruled : Ruled n w S L O r
-  ruled =
-      record {
-        block = i .given .block;
-        order = i .given .order;
-        frames = i .given .sizes .frames;
-        wide = i .given .sizes .some-width;
-        below = omega (arith, below);
-        fit = fit-upto n w S L O r (s .none);
-      }
+  ruled : Ruled n w k S L O r
+  ruled = record { given = i .given; below = omega arith; fit = fit-upto n w S L O r (s .none) }
 
   pub run-long : length counts ≡ n
-  run-long = ap length (s .numbers) ∙ length-counts n (rowBy n S L O r)
+  run-long = laid-long (s .laid) .1
 
   -- the walk of rank r may begin
   pub run-ready : WalkIn (length counts) w S L labels counts (hubOf O r) met queue noted
   run-ready =
-      rw (run-long, s .rows, s .numbers)
+      rw (run-long, s .laid .rows, s .laid .numbers)
       (record {
         ready =
             record {
@@ -130,7 +118,7 @@ module _ {n w k : ℕ} {S L O labels₀ counts₀ met₀ queue₀ noted₀ label
       (o : WalkOut (length counts) w S L labels counts r (hubOf O r) walked labels′ counts′ met′ queue′)
       (notes : noted′ ≡ noted) where
     out : WalkOut n w S L (labelsOf n w (rowBy n S L O r)) (countsOf n (rowBy n S L O r)) r (hubOf O r) walked labels′ counts′ met′ queue′
-    out = rw (run-long, s .rows, s .numbers) at o
+    out = rw (run-long, s .laid .rows, s .laid .numbers) at o
 
     which : walked ≡ decided (not (fullAt n w S L O r)) (not (farAt n S L O r))
     which = out .answer ∙ walk-is ruled below
@@ -158,31 +146,25 @@ module _ {n w k : ℕ} {S L O labels₀ counts₀ met₀ queue₀ noted₀ label
         ∙ ap (λ (j : ℕ). rowBy n S L O j v) (sym (add-one r)) in
         record {
           upto = omega arith;
-          rows =
-              out .rows ∙ made-is made _ _
-              ∙ labels-ext n w _ (rowBy n S L O (r + 1)) (i .given .sizes .some-width) after;
-          numbers = out .numbers ∙ made-is made _ _ ∙ counts-ext n _ (rowBy n S L O (r + 1)) after;
+          laid = laid-ext (rowBy n S L O (r + 1)) (i .given .sizes .some-width) (λ v l. made-is made _ _ ∙ after v l) (out .laid);
           met-zero = out .met-zero;
           queue-zero = out .queue-zero;
           noted-far = notes ∙ s .noted-far;
-          none =
-              λ j l.
-              by-cases (ℕ-discrete j r)
-              (λ (q : j ≡ r). rw q (neither (fullAt n w S L O r) (farAt n S L O r) e f))
-              (λ q. s .none j (omega arith));
+          none = below-more _ r (s .none) (neither (fullAt n w S L O r) (farAt n S L O r) e f);
         }
 
     -- a walk that is not made ends it at this rank, with rows and counts as they were
     stopped : {verdict : Verdict} {how : Walked} → verdict ≡ verdictOf walked r → walked ≡ how
-        → ((x y : List ℕ) → ifMade how x y ≡ y) → stops n w S L O r ≡ true → walksTest n w k S L O ≡ verdictOf how r
+        → ((x y : Row) → ifMade how x y ≡ y) → stops n w S L O r ≡ true → walksTest n w k S L O ≡ verdictOf how r
         → RunOut n w k S L O verdict labels′ counts′ met′ queue′
     stopped said is still e test =
         let at : r ≡ stopAt n w k S L O = sym (stop-here n w S L O k r h (s .none) e) in
-        let same : (x y : List ℕ) → ifMade walked x y ≡ y = λ x y. ap (λ (z : Walked). ifMade z x y) is ∙ still x y in
+        let same : (x y : Row) → ifMade walked x y ≡ y = λ x y. ap (λ (z : Walked). ifMade z x y) is ∙ still x y in
         record {
           answer = said ∙ ap (λ (z : Walked). verdictOf z r) is ∙ sym test;
-          rows = out .rows ∙ same _ _ ∙ ap (λ (j : ℕ). labelsOf n w (rowBy n S L O j)) at;
-          numbers = out .numbers ∙ same _ _ ∙ ap (λ (j : ℕ). countsOf n (rowBy n S L O j)) at;
+          laid =
+              rw at at
+              (laid-ext (rowBy n S L O r) (i .given .sizes .some-width) (λ v l. same _ _ ∙ rows-back ruled v l) (out .laid));
           met-zero = out .met-zero;
           queue-zero = out .queue-zero;
         }

@@ -1,26 +1,22 @@
 -- Where a run of walks stops: at the first rank at which the rule's rows are over W or over 4,095 joins, or at k.
 use Prim.Native.Nat.{ℕ, zero, suc, _*_, _/_, _%_, _≤_, _<_}
 use mathlib.Core.Path.{_≡_, refl, sym, ap, _∙_}
-use mathlib.Core.Bool.{Bool, true, false, _||_}
+use mathlib.Core.Bool.{true, false}
 use mathlib.Core.List.{List, []}
 use native.Mathlib.Omega.{arith}
-use borrow.Author.Tests.{eq-eqb, ne-eqb, ltb-false}
+use borrow.Author.Tests.{ne-eqb, eqb-true, ltb-false}
 use lib.ListN.{length, getD, replicate, length-replicate, getD-replicate}
 use lib.Dec.{ltb}
-use Rattle.basics.proofs.Laws.{is-table, first-is, first-none, some-not, either-left, either-right, either-false}
+use Rattle.basics.proofs.Laws.{is-table, first-is, end-none, none-end, some-not, either-left, either-right, either-false}
 use Rattle.refusal.specs.Numbers.{ROOM, FAR}
 use Rattle.refusal.specs.Tests.{refusal}
 use Rattle.refusal.specs.declared.Verdict.the-variants.{Fine, Refused}
-use Rattle.refusal.proofs.Laws.{test-fine, test-refused}
+use Rattle.refusal.proofs.Laws.{test-fine, test-refused, test-held}
 use Rattle.theory.specs.Rows.{Row}
 use Rattle.theory.specs.Plain.{rowBy}
 use Rattle.theory.proofs.Plain.{row-none}
 use Rattle.rows.specs.Entry.{encode}
-use Rattle.build.specs.Build.{labelsOf, countsOf, fullAt, farAt, stopAt, walksTest}
-
--- at rank r one of the two is so
-abbrev pub stops : ℕ → ℕ → List ℕ → List ℕ → List ℕ → ℕ → Bool
-stops n w S L O r = fullAt n w S L O r || farAt n S L O r
+use Rattle.build.specs.Build.{labelsOf, countsOf, Laid, fullAt, farAt, stops, stopAt, walksTest}
 
 no-entry : (i : ℕ) → getD (encode []) i 0 ≡ 0
 unfolding encode
@@ -28,21 +24,19 @@ no-entry i = refl
 
 module _ (n w : ℕ) (S L O : List ℕ) where
   -- before any walk the rows are empty, and the rooms 0
-  pub labels-empty : labelsOf n w (rowBy n S L O 0) ≡ replicate (n * w) 0
-  unfolding labelsOf
-  labels-empty =
-      sym
-      (is-table 0 (replicate (n * w) 0) (n * w) _ (length-replicate (n * w) 0)
-      (λ p h.
-      getD-replicate (n * w) p 0 0 h
-      ∙ sym (ap (λ (x : Row). getD (encode x) (p % w) 0) (row-none n S L O (p / w)) ∙ no-entry (p % w))))
-
-  pub counts-empty : countsOf n (rowBy n S L O 0) ≡ replicate n 0
-  unfolding countsOf
-  counts-empty =
-      sym
-      (is-table 0 (replicate n 0) n _ (length-replicate n 0)
-      (λ v h. getD-replicate n v 0 0 h ∙ sym (ap (λ (x : Row). length x) (row-none n S L O v))))
+  pub laid-empty : Laid n w (rowBy n S L O 0) (replicate (n * w) 0) (replicate n 0)
+  unfolding labelsOf countsOf
+  laid-empty =
+      record {
+        rows =
+            is-table 0 (replicate (n * w) 0) (n * w) _ (length-replicate (n * w) 0)
+            (λ p h.
+            getD-replicate (n * w) p 0 0 h
+            ∙ sym (ap (λ (x : Row). getD (encode x) (p % w) 0) (row-none n S L O (p / w)) ∙ no-entry (p % w)));
+        numbers =
+            is-table 0 (replicate n 0) n _ (length-replicate n 0)
+            (λ v h. getD-replicate n v 0 0 h ∙ sym (ap (λ (x : Row). length x) (row-none n S L O v)));
+      }
 
   -- where no rank before r stops, the rows at r have at most w entries
   pub fit-upto : (r : ℕ) → ((j : ℕ) → j < r → stops n w S L O j ≡ false) → (v : ℕ) → v < n → length (rowBy n S L O r v) ≤ w
@@ -70,11 +64,16 @@ module _ (n w : ℕ) (S L O : List ℕ) where
     run-far e f =
         rw (stop-here (either-right (fullAt n w S L O r) (farAt n S L O r) f), e) (test-refused FAR 0 (ne-eqb r k (omega arith)))
 
-  module _ (k : ℕ) (none : (j : ℕ) → j < k → stops n w S L O j ≡ false) where
-    pub stop-end : stopAt n w k S L O ≡ k
-    unfolding stopAt
-    stop-end = first-none (stops n w S L O) 0 k (λ j l h. none j (omega arith)) ∙ omega arith
+  pub run-end : (k : ℕ) → ((j : ℕ) → j < k → stops n w S L O j ≡ false) → walksTest n w k S L O ≡ Fine
+  unfolding walksTest stopAt
+  run-end k none = test-fine _ _ (none-end (stops n w S L O) k none)
 
-    pub run-end : walksTest n w k S L O ≡ Fine
+  -- no walk refused: the run stopped at k, and no row there is over w
+  module _ (k : ℕ) (e : walksTest n w k S L O ≡ Fine) where
+    pub at-end : stopAt n w k S L O ≡ k
     unfolding walksTest
-    run-end = test-fine _ _ (eq-eqb (stopAt n w k S L O) k stop-end)
+    at-end = eqb-true (stopAt n w k S L O) k (test-held _ _ _ e)
+
+    pub narrow-rows : (v : ℕ) → v < n → length (rowBy n S L O k v) ≤ w
+    unfolding walksTest stopAt
+    narrow-rows = fit-upto k (end-none (stops n w S L O) k (test-held _ _ _ e))

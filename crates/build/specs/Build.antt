@@ -30,6 +30,11 @@ labelsOf n w R = table (n * w) (λ p. getD (encode (R (p / w))) (p % w) 0)
 unfoldable pub countsOf : ℕ → (ℕ → Row) → List ℕ
 countsOf n R = table n (λ v. length (R v))
 
+-- the two rooms hold these rows and nothing else
+pub record Laid (n w : ℕ) (R : ℕ → Row) (labels counts : List ℕ) : Type 0 where
+  pub rows : labels ≡ labelsOf n w R
+  pub numbers : counts ≡ countsOf n R
+
 -- 1: n from 1 to 4,096, W from 1 to 256, k from 0 to n, neighbour places at most 65,536
 unfoldable pub buildSizes : ℕ → ℕ → ℕ → ℕ → Bool
 buildSizes n w k places = sizesFit n w && (leb k n && placesFit places)
@@ -63,9 +68,13 @@ farFrame n S L O r v =
 unfoldable pub farAt : ℕ → List ℕ → List ℕ → List ℕ → ℕ → Bool
 farAt n S L O r = some (farFrame n S L O r) 0 n
 
--- the lowest rank below k at which one of the two is so, and k where there is none
+-- at rank r one of the two is so
+abbrev pub stops : ℕ → ℕ → List ℕ → List ℕ → List ℕ → ℕ → Bool
+stops n w S L O r = fullAt n w S L O r || farAt n S L O r
+
+-- the lowest such rank below k, and k where there is none
 unfoldable pub stopAt : ℕ → ℕ → ℕ → List ℕ → List ℕ → List ℕ → ℕ
-stopAt n w k S L O = first (λ r. fullAt n w S L O r || farAt n S L O r) 0 k
+stopAt n w k S L O = first (stops n w S L O) 0 k
 
 -- 6 or 7, whichever walk comes to it first: ROOM at the lowest such rank, FAR at 0
 unfoldable pub walksTest : ℕ → ℕ → ℕ → List ℕ → List ℕ → List ℕ → Verdict
@@ -102,8 +111,7 @@ pub record RunIn (n w k : ℕ) (S L O labels counts met queue noted : List ℕ) 
 pub record RunOut (n w k : ℕ) (S L O : List ℕ) (verdict : Verdict)
     (labels-after counts-after met-after queue-after : List ℕ) : Type 0 where
   pub answer : verdict ≡ walksTest n w k S L O
-  pub rows : labels-after ≡ labelsOf n w (rowBy n S L O (stopAt n w k S L O))
-  pub numbers : counts-after ≡ countsOf n (rowBy n S L O (stopAt n w k S L O))
+  pub laid : Laid n w (rowBy n S L O (stopAt n w k S L O)) labels-after counts-after
   pub met-zero : met-after ≡ replicate n 0
   pub queue-zero : queue-after ≡ replicate n 0
 

@@ -1,6 +1,6 @@
 -- The first half of one hub's walk: what it needs of the rooms, what it leaves in the queue, and what holds between two
 -- frames of it. `noted` is the hub's row by rank: its joins, and 65,536 where the row lacks the rank.
-use Prim.Native.Nat.{ℕ, _+_, _-_, _*_, _%_, _≤_, _<_, min}
+use Prim.Native.Nat.{ℕ, _+_, _-_, _*_, _%_, _≤_, _<_}
 use mathlib.Core.Path.{_≡_}
 use mathlib.Core.Logic.{_⊎_}
 use mathlib.Core.Bool.{Bool, true, false, cond}
@@ -38,7 +38,7 @@ pub record Queued (met queue : List ℕ) (tail : ℕ) : Type 0 where
   pub long : length queue ≡ length met
   pub few : tail ≤ length met
   pub low : (i : ℕ) → i < tail → getD queue i 0 < length met
-  pub marked : (i : ℕ) → i < tail → 0 < getD met (getD queue i 0) 0
+  pub is-met : (i : ℕ) → i < tail → 0 < getD met (getD queue i 0) 0
   pub all : (v : ℕ) → v < length met → 0 < getD met v 0 → (i : ℕ) × (i < tail) × (getD queue i 0 ≡ v)
   pub once : (i j : ℕ) → i < j → j < tail → getD queue i 0 ≡ getD queue j 0 → ⊥
   pub rest : (i : ℕ) → tail ≤ i → getD queue i 0 ≡ 0
@@ -46,16 +46,6 @@ pub record Queued (met queue : List ℕ) (tail : ℕ) : Type 0 where
 -- a frame that is not dropped has a level below `tail`: its mark is the level + 1
 pub record Low (met : List ℕ) (tail : ℕ) : Type 0 where
   pub mark : (v : ℕ) → v < length met → getD met v 0 < 65536 → getD met v 0 ≤ tail
-
--- how many places of a list are not 0
-unfoldable pub filled : List ℕ → ℕ
-filled [] = 0
-filled (x ∷ xs) = min x 1 + filled xs
-
--- the queue of a walk under way: as many frames as the met room marks
-pub record Queue (met queue : List ℕ) (tail : ℕ) : Type 0 where
-  pub is : Queued met queue tail
-  pub count : filled met ≡ tail
 
 -- the mark that v was met with, one more than its level: what a drop adds is taken off
 abbrev pub metAt : List ℕ → ℕ → ℕ
@@ -70,13 +60,13 @@ unfoldable pub notedBy : Bool → List ℕ → List ℕ → List ℕ
 notedBy forget [] noted = noted
 notedBy forget (e ∷ es) noted = notedBy forget es (set noted (rankOf e) (noteOf forget e))
 
--- every rank of the row has a place in the table
-abbrev pub RanksIn : List ℕ → List ℕ → Type 0
-RanksIn row noted = (i : ℕ) → i < length row → rankOf (getD row i 0) < length noted
+-- entry i of the row and the noted joins of its rank give a sum of at most the level
+abbrev pub entryWithin : List ℕ → List ℕ → ℕ → ℕ → Bool
+entryWithin noted row level i = leb (joinsOf (getD row i 0) + getD noted (rankOf (getD row i 0)) 0) level
 
--- the answer for the noted row and this row is at most the level: some entry and the noted joins of its rank say so
+-- the answer for the noted row and this row is at most the level: some entry says so
 unfoldable pub within : List ℕ → List ℕ → ℕ → Bool
-within noted row level = some (λ i. leb (joinsOf (getD row i 0) + getD noted (rankOf (getD row i 0)) 0) level) 0 (length row)
+within noted row level = some (entryWithin noted row level) 0 (length row)
 
 -- the same for the row of u
 unfoldable pub drops : ℕ → List ℕ → List ℕ → List ℕ → ℕ → ℕ → Bool
@@ -99,11 +89,11 @@ pub record MeetIn (S L : List ℕ) (u mark : ℕ) (met queue : List ℕ) (tail :
   pub frames : length met ≤ 4096
   pub frame : u < length met
   pub some : 0 < mark
-  pub line : Queue met queue tail
+  pub line : Queued met queue tail
 
 -- The frames in the list of u from its start up to place `upto` are met: those not met before with this mark, behind the old queue.
 pub record Grown (S L : List ℕ) (u upto mark : ℕ) (met queue : List ℕ) (tail : ℕ) (met' queue' : List ℕ) (tail' : ℕ) : Type 0 where
-  pub line : Queue met' queue' tail'
+  pub line : Queued met' queue' tail'
   pub long : length met' ≡ length met
   pub more : tail ≤ tail'
   pub front : (i : ℕ) → i < tail → getD queue' i 0 ≡ getD queue i 0
@@ -119,9 +109,9 @@ pub record Kept (S L : List ℕ) (drop : ℕ → ℕ → Bool) (met : List ℕ) 
   pub met-all : (v : ℕ) → Link S L ones u v 1 → 0 < getD met v 0
   pub next : (v : ℕ) → Link S L ones u v 1 → metAt met v ≤ metAt met u + 1
 
--- a frame that is dropped has the mark
+-- a frame that is dropped has 65,536 more than its mark
 pub record Dropped (drop : ℕ → ℕ → Bool) (met : List ℕ) (u : ℕ) : Type 0 where
-  pub marked : 65536 ≤ getD met u 0
+  pub over : 65536 ≤ getD met u 0
   pub found : drop u (metAt met u - 1) ≡ true
 
 -- a frame that was met from a kept frame before place `head` of the queue
@@ -130,13 +120,13 @@ pub record Parent (S L met queue : List ℕ) (head v : ℕ) : Type 0 where
   pub before : place < head
   pub link : Link S L ones (getD queue place 0) v 1
   pub kept : getD met (getD queue place 0) 0 < 65536
-  pub level : metAt met v ≡ metAt met (getD queue place 0) + 1
+  pub met-at : metAt met v ≡ metAt met (getD queue place 0) + 1
 
 -- The walk with the frames before place `head` of the queue done: levels never fall along the queue, and the last is at most one above
 -- that of the frame at `head`; every frame but the hub has its reason.
 pub record Bfs (n : ℕ) (S L : List ℕ) (drop : ℕ → ℕ → Bool) (hub : ℕ) (met queue : List ℕ) (head tail : ℕ) : Type 0 where
   pub long : length met ≡ n
-  pub line : Queue met queue tail
+  pub line : Queued met queue tail
   pub ahead : head ≤ tail
   pub some : 0 < tail
   pub first : getD queue 0 0 ≡ hub

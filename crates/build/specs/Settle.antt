@@ -15,16 +15,11 @@ use Rattle.theory.specs.Distance.{far}
 use Rattle.theory.specs.Rows.{Row}
 use Rattle.theory.specs.Walk.{walkRow}
 use Rattle.theory.specs.Plain.{joined}
-use Rattle.build.specs.Build.{labelsOf, countsOf}
+use Rattle.build.specs.Build.{Laid}
 use Rattle.build.specs.Explore.{Queued, Low, ExploreIn}
 use Rattle.build.specs.Walk.{rowsIn, levelOf, kept, walkFits}
 use Rattle.build.specs.declared.settle.Walked.{Walked}
 use Rattle.build.specs.declared.settle.Walked.the-variants.{Made, Full, Far}
-
--- the two rooms hold their rows and nothing else: unused places are 0
-pub record Laid (n w : ℕ) (labels counts : List ℕ) : Type 0 where
-  pub places : labels ≡ labelsOf n w (rowsIn w labels counts)
-  pub numbers : counts ≡ countsOf n (rowsIn w labels counts)
 
 -- the mark of a met frame that is kept: level + 1, below the mark of a dropped one
 unfoldable pub isKept : ℕ → Bool
@@ -54,13 +49,6 @@ gain rank mark x = cond (isKept mark) (x ++ ((rank, mark - 1) ∷ [])) x
 unfoldable pub rowsAfter : ℕ → ℕ → List ℕ → List ℕ → List ℕ → ℕ → Row
 rowsAfter w rank labels counts met v = gain rank (getD met v 0) (rowsIn w labels counts v)
 
--- the two rooms after it
-abbrev pub labelsAfter : ℕ → ℕ → List ℕ → List ℕ → List ℕ → List ℕ
-labelsAfter w rank labels counts met = labelsOf (length met) w (rowsAfter w rank labels counts met)
-
-abbrev pub countsAfter : ℕ → ℕ → List ℕ → List ℕ → List ℕ → List ℕ
-countsAfter w rank labels counts met = countsOf (length met) (rowsAfter w rank labels counts met)
-
 -- v is met, its row lies in the label room, and has room for an entry if the mark says kept
 pub record GiveIn (w v mark : ℕ) (labels counts : List ℕ) : Type 0 where
   pub met : 0 < mark
@@ -74,7 +62,7 @@ pub record SettleIn (w : ℕ) (labels counts met queue : List ℕ) (tail : ℕ) 
   pub frames : length met ≤ 4096
   pub wide : 1 ≤ w
   pub width : w ≤ 256
-  pub laid : Laid (length met) w labels counts
+  pub laid : Laid (length met) w (rowsIn w labels counts) labels counts
   pub queued : Queued met queue tail
   pub low : Low met tail
 
@@ -86,8 +74,8 @@ decided fits near = cond fits (cond near Made Far) Full
 unfoldable pub settleOf : ℕ → List ℕ → List ℕ → Walked
 settleOf w counts met = decided (fitsAll w counts met) (noneFar met)
 
--- either the whole walk is made or rows and counts stay
-unfoldable pub ifMade : Walked → List ℕ → List ℕ → List ℕ
+-- either the whole walk is made or the row stays
+unfoldable pub ifMade : Walked → Row → Row → Row
 ifMade Made after before = after
 ifMade Full after before = before
 ifMade Far after before = before
@@ -108,14 +96,14 @@ walkOf n w S L labels counts hub = decided (walkFits n w S L labels counts hub) 
 -- a block, sound rows that the rooms hold and nothing else, work rooms 0
 pub record WalkIn (n w : ℕ) (S L labels counts : List ℕ) (hub : ℕ) (met queue noted : List ℕ) : Type 0 where
   pub ready : ExploreIn n w S L labels counts hub met queue noted
-  pub laid : Laid n w labels counts
+  pub laid : Laid n w (rowsIn w labels counts) labels counts
 
 -- what the walk gives back, and the rooms after it; the work rooms are 0 either way
 pub record WalkOut (n w : ℕ) (S L labels counts : List ℕ) (rank hub : ℕ) (walked : Walked)
     (labels-after counts-after met-after queue-after : List ℕ) : Type 0 where
   pub answer : walked ≡ walkOf n w S L labels counts hub
-  pub rows : labels-after ≡ ifMade walked (labelsOf n w (walkedRows n w S L labels counts rank hub)) labels
-  pub numbers : counts-after ≡ ifMade walked (countsOf n (walkedRows n w S L labels counts rank hub)) counts
+  pub laid : Laid n w (λ v. ifMade walked (walkedRows n w S L labels counts rank hub v) (rowsIn w labels counts v))
+      labels-after counts-after
   pub met-zero : met-after ≡ replicate n 0
   pub queue-zero : queue-after ≡ replicate n 0
 

@@ -4,9 +4,10 @@
 ghost use mathlib.Core.Path.{_≡_};
 ghost use Prim.Native.Nat.{_+_};
 ghost use lib.ListN.{length, getD};
+ghost use Rattle.rows.specs.Entry.{RanksIn};
 ghost use Rattle.rows.specs.Rooms.{rowAt, RowLies};
 ghost use Rattle.build.specs.Walk.{metRoom};
-ghost use Rattle.build.specs.Explore.{RanksIn, within, noteOf, notedBy, drops, DropIn, MeetIn, Grown};
+ghost use Rattle.build.specs.Explore.{within, noteOf, notedBy, drops, DropIn, MeetIn, Grown};
 ghost use Rattle.build.specs.Explore.{StepIn, SpreadIn, Bfs, ExploreIn, Queued, Low};
 use rows::entry::Entry;
 use rows::entry::joins_of;
@@ -16,7 +17,7 @@ use rows::entry::rank_of;
 pub const DROPPED: u32 = 65536;
 
 // The joins noted for a rank that the hub's row lacks: above every level.
-const LACKING: u32 = 65536;
+pub const LACKING: u32 = 65536;
 
 // What is noted for an entry: its joins, or LACKING where its rank is forgotten.
 fn note_of(e: Entry, forget: bool) -> u32

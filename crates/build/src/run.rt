@@ -1,4 +1,5 @@
 // The walks of the first k hubs in rank order, over cleared rooms, up to the first that is refused.
+use crate::explore::LACKING;
 use crate::settle::Walked;
 use crate::walk::walk;
 use refusal::Verdict;
@@ -86,7 +87,7 @@ pub fn walks(
         (now (labels .exit)) (now (counts .exit)) (now (met .exit)) (now (queue .exit))
         ⌝ }
 {
-    let mut noted = [65536u32; 4096];
+    let mut noted = [LACKING; 4096];
     run(
         w,
         k,

@@ -8,8 +8,10 @@ ghost use mathlib.Core.Bool.{true, cond};
 ghost use Prim.Native.Nat.{_+_, _-_, _*_, _<_};
 ghost use lib.ListN.{length, getD, set, replicate};
 ghost use Rattle.rows.specs.Entry.{entryOf};
+ghost use Rattle.build.specs.Build.{Laid};
+ghost use Rattle.build.specs.Walk.{rowsIn};
 ghost use Rattle.build.specs.Explore.{Queued};
-ghost use Rattle.build.specs.Settle.{isKept, lacksRoom, fitsAll, GiveIn, SettleIn, settleOf, labelsAfter, countsAfter, ifMade};
+ghost use Rattle.build.specs.Settle.{isKept, lacksRoom, fitsAll, GiveIn, SettleIn, settleOf, rowsAfter, ifMade};
 
 // What became of a walk: made as a whole, or refused for room or for too many joins with nothing stored.
 pub enum Walked {
@@ -84,10 +86,9 @@ pub fn store(
         SettleIn w (now labels) (now counts) (now met) (now queue) tail × (fitsAll w (now counts) (now met) ≡ true)
         ⌝ }
     ensures { λ r. ⌜
-        now (labels .exit) ≡ labelsAfter w rank (now (labels .entry)) (now (counts .entry)) (now (met .entry))
-        ⌝ }
-    ensures { λ r. ⌜
-        now (counts .exit) ≡ countsAfter w rank (now (labels .entry)) (now (counts .entry)) (now (met .entry))
+        Laid (length (now (met .entry))) w
+        (rowsAfter w rank (now (labels .entry)) (now (counts .entry)) (now (met .entry)))
+        (now (labels .exit)) (now (counts .exit))
         ⌝ }
 {
     let mut at = 0;
@@ -127,12 +128,10 @@ pub fn settle(
     requires { ⌜ SettleIn w (now labels) (now counts) (now met) (now queue) tail ⌝ }
     ensures { λ r. ⌜ r ≡ settleOf w (now (counts .entry)) (now (met .entry)) ⌝ }
     ensures { λ r. ⌜
-        now (labels .exit)
-        ≡ ifMade r (labelsAfter w rank (now (labels .entry)) (now (counts .entry)) (now (met .entry))) (now (labels .entry))
-        ⌝ }
-    ensures { λ r. ⌜
-        now (counts .exit)
-        ≡ ifMade r (countsAfter w rank (now (labels .entry)) (now (counts .entry)) (now (met .entry))) (now (counts .entry))
+        Laid (length (now (met .entry))) w
+        (λ v. ifMade r (rowsAfter w rank (now (labels .entry)) (now (counts .entry)) (now (met .entry)) v)
+        (rowsIn w (now (labels .entry)) (now (counts .entry)) v))
+        (now (labels .exit)) (now (counts .exit))
         ⌝ }
 {
     let room = fits(w, counts, met, queue, tail);

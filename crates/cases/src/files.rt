@@ -26,12 +26,12 @@ fn judge(bytes: &[u8]) {
     let mut order = [0u32; FRAMES];
     let mut labels = [0u32; FRAMES * WIDTH];
     let mut counts = [0u32; FRAMES];
-    let places = n * WIDTH;
+    let label_places = n * WIDTH;
     let answer = file::read(
         bytes,
         WIDTH,
         &mut order[..n],
-        &mut labels[..places],
+        &mut labels[..label_places],
         &mut counts[..n],
     );
     place(answer);

@@ -1,6 +1,5 @@
 // 'Checked by hand', the cases without a star.
 ghost use Prim.Native.Nat.{_*_, _≤_};
-ghost use lib.ListN.{length};
 use crate::print;
 use build::Built;
 use file::Written;
@@ -100,18 +99,7 @@ fn alone() {
     print::words(b"\n");
 }
 
-// The frames' own order.
-fn count_up(order: &mut [u32])
-    requires { ⌜ length (now order) ≤ 4097 ⌝ }
-{
-    let mut rank: usize = 0;
-    while rank < order.len() {
-        order[rank] = rank as u32;
-        rank += 1;
-    }
-}
-
-// n frames with no link, rooms cut for n and w, built whole.
+// n frames with no link, rooms cut for n and w, built whole. All degrees are equal, so the order is the frames' own.
 fn unlinked(n: usize, w: usize)
     requires { ⌜ (n ≤ 4097) × (n * w ≤ 4097) ⌝ }
 {
@@ -119,16 +107,16 @@ fn unlinked(n: usize, w: usize)
     let mut order = [0u32; 4097];
     let mut labels = [0u32; 4097];
     let mut counts = [0u32; 4097];
-    count_up(&mut order);
     let ends = n + 1;
-    let places = n * w;
+    let label_places = n * w;
+    links::order_by_degree(n, &starts[..ends], &[], &mut order[..n]);
     let answer = whole(
         n,
         w,
         &starts[..ends],
         &[],
         &order[..n],
-        &mut labels[..places],
+        &mut labels[..label_places],
         &mut counts[..n],
     );
     built(answer);

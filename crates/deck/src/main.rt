@@ -4,7 +4,7 @@
 // strip and the one beside it in the next strip; no frame of the ramp overlaps one of the deck. So there are pairs that no
 // chain joins.
 //
-// Nearly all frames have four links, and an order by degree is then nearly the frames' own: rows grow to 186 entries, and
+// Most frames have three or four links, and an order by degree is then nearly the frames' own: rows grow to 186 entries, and
 // a build with 32 is refused with ROOM. The hubs here go by halves, the middle of the deck first, then the middles of
 // its halves, and so on, which keeps each row within 32.
 use build::Built;

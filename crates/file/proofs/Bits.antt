@@ -3,7 +3,7 @@ use Prim.Native.Nat.{ℕ, zero, suc, _+_, _-_, _*_, _/_, _%_, _^_, _≤_, _<_}
 use mathlib.Core.Path.{_≡_, refl, sym, ap, ap₂, subst, _∙_}
 use mathlib.Core.List.{List, [], _∷_, _++_}
 use native.Mathlib.Omega.{arith}
-use native.Mathlib.Nat.{mod-one, div-eq-of-lt, zero-add, mul-zero, add-assoc, mul-assoc, mul-comm, mod-lt, mod-eq-of-lt, sub-zero, sub-self, div-one, le-refl}
+use native.Mathlib.Nat.{mod-one, div-eq-of-lt, zero-add, mul-zero, add-assoc, add-mul, mul-assoc, mul-comm, mod-lt, mod-eq-of-lt, sub-zero, sub-self, div-one, le-refl}
 use lib.ListN.{length, getD, take, drop, length-append, take-append-drop}
 use lib.Seq.{length-take-le, take-suc, getD-drop}
 use lib.Pow.{pow-pos, pow-add, split, high, low, field, shr-shr, mod-mod-pow, mod-pow-add}
@@ -21,6 +21,15 @@ val-append (x ∷ xs) ys =
     let e : 2 ^ (8 * length (xs ++ ys)) ≡ P * Q =
     ap (λ (k : ℕ). 2 ^ (8 * k)) (length-append xs ys) ∙ ap (λ (k : ℕ). 2 ^ k) (omega arith) ∙ pow-add 2 (8 * length xs) (8 * length ys) in
     ap₂ (λ (a b : ℕ). x * a + b) e (val-append xs ys) ∙ omega (arith, mul-assoc x P Q)
+
+-- one byte behind the others
+pub val-snoc : (xs : List ℕ) (b : ℕ) → val (xs ++ (b ∷ [])) ≡ val xs * 256 + b
+unfolding val
+val-snoc xs b = val-append xs (b ∷ []) ∙ omega arith
+
+-- a digit behind two others
+pub horner : (a b c P Q : ℕ) → (a * P + b) * Q + c ≡ a * (P * Q) + (b * Q + c)
+horner a b c P Q = omega (arith, mul-assoc a P Q, add-mul (a * P) b Q)
 
 pub bytes-tail : (b : ℕ) (bs : List ℕ) → Bytes (b ∷ bs) → Bytes bs
 bytes-tail b bs h i = h (suc i)
@@ -74,12 +83,10 @@ upTo-take s i b h =
 
 -- one byte more
 pub upTo-byte : (s : List ℕ) (i : ℕ) → Bytes s → i < length s → upTo s (8 * i + 8) ≡ upTo s (8 * i) * 256 + getD s i 0
-unfolding val
 upTo-byte s i b h =
     let e : upTo s (8 * i + 8) ≡ upTo s (8 * suc i) = ap (upTo s) (omega arith) in
-    let f : val (take (suc i) s) ≡ val (take i s ++ (getD s i 0 ∷ [])) = ap val (take-suc s i 0 h) in
-    e ∙ upTo-take s (suc i) b h ∙ f ∙ val-append (take i s) (getD s i 0 ∷ [])
-    ∙ ap (λ (x : ℕ). x * 256 + (getD s i 0 * 1 + 0)) (sym (upTo-take s i b (omega arith))) ∙ omega arith
+    e ∙ upTo-take s (suc i) b h ∙ ap val (take-suc s i 0 h) ∙ val-snoc (take i s) (getD s i 0)
+    ∙ ap (λ (x : ℕ). x * 256 + getD s i 0) (sym (upTo-take s i b (omega arith)))
 
 -- a field of w bits that ends t bits before the end of the last k
 pub window : (x k t w : ℕ) → t + w ≤ k → x % 2 ^ k / 2 ^ t % 2 ^ w ≡ x / 2 ^ t % 2 ^ w
@@ -113,15 +120,19 @@ unfolding fieldAt
 field-lt s p w = mod-lt (upTo s (p + w)) (pow-pos w)
 
 -- two fields of 12 bits, read as one
-pub pair-rank : (s : List ℕ) (p : ℕ) → p + 24 ≤ 8 * length s → fieldAt s p 24 / 4096 ≡ fieldAt s p 12
+pair-rank : (s : List ℕ) (p : ℕ) → p + 24 ≤ 8 * length s → fieldAt s p 24 / 4096 ≡ fieldAt s p 12
 unfolding fieldAt
 pair-rank s p h =
     field (upTo s (p + 24)) 12 12
     ∙ ap (λ (x : ℕ). x % 2 ^ 12) (sym (upTo-cut s (p + 12) 12 (omega arith) ∙ ap (λ (k : ℕ). upTo s k / 2 ^ 12) (omega arith)))
 
-pub pair-joins : (s : List ℕ) (p : ℕ) → fieldAt s p 24 % 4096 ≡ fieldAt s (p + 12) 12
+pair-joins : (s : List ℕ) (p : ℕ) → fieldAt s p 24 % 4096 ≡ fieldAt s (p + 12) 12
 unfolding fieldAt
 pair-joins s p = mod-mod-pow (upTo s (p + 24)) 12 12 ∙ ap (λ (k : ℕ). upTo s k % 2 ^ 12) (omega arith)
+
+pub pair-parts : (s : List ℕ) (p : ℕ) {both : ℕ} → p + 24 ≤ 8 * length s → both ≡ fieldAt s p 24
+    → (both / 4096 ≡ fieldAt s p 12) × (both % 4096 ≡ fieldAt s (p + 12) 12)
+pair-parts s p h e = (ap (λ (x : ℕ). x / 4096) e ∙ pair-rank s p h, ap (λ (x : ℕ). x % 4096) e ∙ pair-joins s p)
 
 -- ---- fields put together
 

@@ -1,19 +1,19 @@
 -- A number put byte by byte, from the top: the bytes stored and the bits left of it make the number that was to be put.
 use Prim.Native.Nat.{ℕ, _+_, _*_, _/_, _%_, _^_, _≤_, _<_}
 use mathlib.Core.Path.{_≡_, refl, sym, ap, ap₂, subst, _∙_}
-use mathlib.Core.List.{List, [], _∷_}
+use mathlib.Core.List.{List}
 use native.Mathlib.Omega.{arith}
-use native.Mathlib.Nat.{add-assoc, add-mul, mul-assoc, mod-lt, mod-eq-of-lt}
+use native.Mathlib.Nat.{mod-lt, mod-eq-of-lt}
 use native.Mathlib.Numerals.{add-one}
 use lib.ListN.{length, set, take, drop, length-set}
 use lib.Seq.{take-suc-set, drop-set-lt}
 use lib.Pow.{pow-pos, pow-add, mod-pow-add}
 use lib.Arith.{digits-lt}
+use Rattle.basics.proofs.Laws.{drop-later}
 use Rattle.file.specs.declared.put.Pen.{Pen}
 use Rattle.file.specs.Bits.{Field, val, bitLen, num, Legal}
 use Rattle.file.specs.Pen.{penBits, penNum, Ready, Put}
-use Rattle.file.proofs.Bits.{val-append, num-split, num-lt}
-use Rattle.file.proofs.Pen.{drop-later}
+use Rattle.file.proofs.Bits.{val-snoc, horner, num-split, num-lt}
 
 -- the first b bits of the room, with the last nb bits of `whole`, are the number x; beyond the bytes stored it is o₀
 pub record BytesLeft (o₀ : List ℕ) (x b whole : ℕ) (o : List ℕ) (at nb : ℕ) : Type 0 where
@@ -30,21 +30,19 @@ module _ {o₀ : List ℕ} {x b whole : ℕ} {o : List ℕ} {at nb : ℕ} (s : B
 
   -- it is stored
   pub byte-step : (next : ℕ) → next ≡ at + 1 → BytesLeft o₀ x b whole (set o at (whole / 2 ^ j % 256)) next j
-  unfolding val
   byte-step next n =
       let q : ℕ = whole / 2 ^ j % 256 in
       let F : ℕ = val (take at o) in
       let front : val (take next (set o at q)) ≡ F * 2 ^ 8 + q =
-      ap (λ (k : ℕ). val (take k (set o at q))) (n ∙ add-one at) ∙ ap val (take-suc-set o at q byte-room) ∙ val-append (take at o) (q ∷ []) ∙ omega arith in
+      ap (λ (k : ℕ). val (take k (set o at q))) (n ∙ add-one at) ∙ ap val (take-suc-set o at q byte-room) ∙ val-snoc (take at o) q in
       let power : 2 ^ nb ≡ 2 ^ 8 * 2 ^ j = ap (λ (k : ℕ). 2 ^ k) e ∙ pow-add 2 8 j in
       let cut : q * 2 ^ j + whole % 2 ^ j ≡ whole % 2 ^ nb = sym (ap (λ (k : ℕ). whole % 2 ^ k) e ∙ mod-pow-add whole 8 j) in
       record {
         bits = omega (arith, s .bits);
         inside = simp length-set (s .inside);
         number =
-            ap (λ (y : ℕ). y * 2 ^ j + whole % 2 ^ j) front
-            ∙ ap (λ (y : ℕ). y + whole % 2 ^ j) (add-mul (F * 2 ^ 8) q (2 ^ j) ∙ ap (λ (y : ℕ). y + q * 2 ^ j) (mul-assoc F (2 ^ 8) (2 ^ j) ∙ ap (λ (y : ℕ). F * y) (sym power)))
-            ∙ add-assoc (F * 2 ^ nb) (q * 2 ^ j) (whole % 2 ^ j) ∙ ap (λ (y : ℕ). F * 2 ^ nb + y) cut ∙ s .number;
+            ap (λ (y : ℕ). y * 2 ^ j + whole % 2 ^ j) front ∙ horner F q (whole % 2 ^ j) (2 ^ 8) (2 ^ j)
+            ∙ ap₂ (λ (y z : ℕ). F * y + z) (sym power) cut ∙ s .number;
         long = length-set o at q ∙ s .long;
         rest =
             drop-set-lt next o at q (omega arith) ∙ drop-later o o₀ at next (omega arith) (s .rest);
@@ -72,8 +70,7 @@ module _ {o : List ℕ} {p : Pen} {fs : List Field} (r : Ready o p fs) (L : ℕ)
             ap₂ (λ (y z : ℕ). F * y + z) (pow-add 2 (p .nb) L) w
             ∙ sym (num-split (penNum o p) fs
             ∙ ap (λ (k : ℕ). (F * 2 ^ p .nb + p .acc) * 2 ^ k + N) l
-            ∙ ap (λ (y : ℕ). y + N) (add-mul (F * 2 ^ p .nb) (p .acc) (2 ^ L) ∙ ap (λ (y : ℕ). y + p .acc * 2 ^ L) (mul-assoc F (2 ^ p .nb) (2 ^ L)))
-            ∙ add-assoc (F * (2 ^ p .nb * 2 ^ L)) (p .acc * 2 ^ L) N);
+            ∙ horner F (p .acc) N (2 ^ p .nb) (2 ^ L));
         long = refl;
         rest = refl;
       }

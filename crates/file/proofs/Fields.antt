@@ -1,23 +1,22 @@
 -- The laws of the reader's tests, one field after another: where a test stops, where it goes on, where it ends.
-use Prim.Native.Nat.{ℕ, zero, suc, _+_, _-_, _*_, _≤_, _<_}
-use mathlib.Core.Path.{_≡_, refl, sym, ap, ap₂, _∙_}
+use Prim.Native.Nat.{ℕ, _+_, _*_, _≤_, _<_}
+use mathlib.Core.Path.{_≡_, sym, ap, _∙_}
 use mathlib.Core.Bool.{true, false}
 use mathlib.Core.List.{List}
 use native.Mathlib.Omega.{arith}
-use native.Mathlib.Numerals.{add-one}
 use lib.ListN.{length}
 use lib.Dec.{leb, ltb}
-use borrow.Author.Tests.{le-leb, lt-leb, lt-ltb, leb-true, eq-eqb, ne-eqb}
-use Rattle.basics.proofs.Laws.{both, both-true, not-of-true, not-of-false, of-not-true, less-one}
+use borrow.Author.Tests.{le-leb, lt-leb, lt-ltb, leb-true, eq-eqb, ne-eqb, not-true}
+use Rattle.basics.specs.Places.{stands}
+use Rattle.basics.proofs.Laws.{both, both-true, not-of-true, not-of-false}
 use Rattle.refusal.specs.Numbers.{ROOM, FIELD, LONG}
 use Rattle.refusal.specs.Tests.{refusal}
 use Rattle.refusal.specs.declared.Refusal.{Refusal}
 use Rattle.refusal.specs.declared.Verdict.{Verdict}
 use Rattle.refusal.proofs.Laws.{test-fine, test-refused, test-held, then-fine, after-fine, after-refused}
-use Rattle.links.specs.Order.{stands}
 use Rattle.links.proofs.Order.{rank-again, rank-sound, sound-inside}
 use Rattle.file.specs.Bits.{fieldAt, byteLen, padLen}
-use Rattle.file.specs.Reader.{shortTest, fieldTest, frameAt, orderFieldTest, orderFrom, entryTest, entriesFrom, rowTest, behind, whole, goOn, rowsFrom, rowsOf, endTest, bodyTest}
+use Rattle.file.specs.Reader.{shortTest, fieldTest, frameAt, orderFieldTest, orderFrom, entryTest, entriesFrom, rowTest, rowBit, rowsFrom, endTest, bodyTest}
 use Rattle.file.proofs.Steps.{field-fine, field-refused, field-more, field-there}
 
 -- ---- the order
@@ -26,7 +25,7 @@ module _ (s : List ℕ) (n r : ℕ) where
   pub order-out : {f : Refusal} → fieldTest s (32 + 12 * r) 12 (ltb (frameAt s r) n) ≡ Verdict.Refused f
       → orderFieldTest s n r ≡ Verdict.Refused f
   unfolding orderFieldTest
-  order-out e = field-more s _ 12 _ _ (λ h. lt-ltb _ _ (sound-inside n (frameAt s) r (of-not-true _ h))) e
+  order-out e = field-more s _ 12 _ _ (λ h. lt-ltb _ _ (sound-inside n (frameAt s) r (not-true _ h))) e
 
   pub order-again : shortTest s (32 + 12 * r) 12 ≡ Verdict.Fine → stands (frameAt s) r (frameAt s r) ≡ true
       → orderFieldTest s n r ≡ Verdict.Refused (refusal FIELD (32 + 12 * r))
@@ -38,20 +37,7 @@ module _ (s : List ℕ) (n r : ℕ) where
   unfolding orderFieldTest
   order-legal e h k = field-fine s _ 12 e (not-of-false (rank-sound n (frameAt s) r h k))
 
-  pub order-stop : {f : Refusal} → r < n → orderFieldTest s n r ≡ Verdict.Refused f → orderFrom s n r (n - r) ≡ Verdict.Refused f
-  unfolding orderFrom
-  order-stop h e = ap (orderFrom s n r) (less-one h) ∙ after-refused _ e
-
-  pub order-on : r < n → orderFieldTest s n r ≡ Verdict.Fine → orderFrom s n (r + 1) (n - (r + 1)) ≡ orderFrom s n r (n - r)
-  unfolding orderFrom
-  order-on h e =
-      ap (λ (k : ℕ). orderFrom s n k (n - (r + 1))) (add-one r) ∙ sym (ap (orderFrom s n r) (less-one h) ∙ after-fine _ e)
-
-  pub order-end : n ≤ r → orderFrom s n r (n - r) ≡ Verdict.Fine
-  unfolding orderFrom
-  order-end h = let none : n - r ≡ 0 = omega arith in ap (orderFrom s n r) none
-
--- ---- one entry, and the entries of a row
+-- ---- one entry
 
 module _ (s : List ℕ) (n k p low : ℕ) where
   pub entry-rank : {f : Refusal} → fieldTest s p 12 (ltb (fieldAt s p 12) k) ≡ Verdict.Refused f
@@ -74,26 +60,7 @@ module _ (s : List ℕ) (n k p low : ℕ) where
       → shortTest s (p + 12) 12 ≡ Verdict.Fine → fieldAt s (p + 12) 12 < n → entryTest s n k p low ≡ Verdict.Fine
   entry-legal e h g j l = entry-left e h g ∙ field-fine s _ 12 j (lt-ltb _ _ l)
 
-  pub entries-stop : (left : ℕ) {f : Refusal} → 0 < left → entryTest s n k p low ≡ Verdict.Refused f
-      → entriesFrom s n k p low left ≡ Verdict.Refused f
-  unfolding entriesFrom
-  entries-stop zero h e = absurd (omega arith)
-  entries-stop (suc left) h e = after-refused _ e
-
-  pub entries-on : (left rank : ℕ) → 0 < left → entryTest s n k p low ≡ Verdict.Fine → rank ≡ fieldAt s p 12
-      → entriesFrom s n k (p + 24) (rank + 1) (left - 1) ≡ entriesFrom s n k p low left
-  unfolding entriesFrom
-  entries-on zero rank h e q = absurd (omega arith)
-  entries-on (suc left) rank h e q =
-      let less : suc left - 1 ≡ left = omega arith in
-      ap₂ (λ (x l : ℕ). entriesFrom s n k (p + 24) (x + 1) l) q less ∙ sym (after-fine _ e)
-
-  pub entries-end : (left : ℕ) → left ≤ 0 → entriesFrom s n k p low left ≡ Verdict.Fine
-  unfolding entriesFrom
-  entries-end zero h = refl
-  entries-end (suc left) h = absurd (omega arith)
-
--- ---- one row, and all rows
+-- ---- one row
 
 module _ (s : List ℕ) (n k w v p : ℕ) where
   pub row-count : {f : Refusal} → fieldTest s p 9 (ltb (fieldAt s p 9) 257) ≡ Verdict.Refused f
@@ -127,26 +94,6 @@ module _ (s : List ℕ) (n k w v p : ℕ) where
   unfolding rowTest
   row-fine e = then-fine _ _ (then-fine _ _ e .1) .1
 
-  pub rows-stop : {f : Refusal} → v < n → rowTest s n k w v p ≡ Verdict.Refused f
-      → rowsFrom s n k w v p (n - v) ≡ whole v p (Verdict.Refused f)
-  unfolding rowsFrom goOn
-  rows-stop h e =
-      ap (rowsFrom s n k w v p) (less-one h)
-      ∙ ap (λ (t : Verdict). goOn t v p (rowsFrom s n k w (suc v) (behind s p) (n - (v + 1)))) e
-
-  pub rows-on : {next : ℕ} → v < n → rowTest s n k w v p ≡ Verdict.Fine → next ≡ behind s p
-      → rowsFrom s n k w (v + 1) next (n - (v + 1)) ≡ rowsFrom s n k w v p (n - v)
-  unfolding rowsFrom goOn
-  rows-on h e q =
-      ap₂ (λ (u x : ℕ). rowsFrom s n k w u x (n - (v + 1))) (add-one v) q
-      ∙ sym
-      (ap (rowsFrom s n k w v p) (less-one h)
-      ∙ ap (λ (t : Verdict). goOn t v p (rowsFrom s n k w (suc v) (behind s p) (n - (v + 1)))) e)
-
-  pub rows-end : n ≤ v → rowsFrom s n k w v p (n - v) ≡ whole v p Verdict.Fine
-  unfolding rowsFrom
-  rows-end h = let none : n - v ≡ 0 = omega arith in ap (rowsFrom s n k w v p) none
-
 -- ---- the end
 
 module _ (s : List ℕ) (p : ℕ) where
@@ -169,12 +116,12 @@ module _ (s : List ℕ) (n k w : ℕ) where
   unfolding bodyTest
   body-order e = after-refused _ e
 
-  pub body-rows : {f : Refusal} → orderFrom s n 0 n ≡ Verdict.Fine → rowsOf s n k w .verdict ≡ Verdict.Refused f
+  pub body-rows : {f : Refusal} → orderFrom s n 0 n ≡ Verdict.Fine → rowsFrom s n k w 0 n ≡ Verdict.Refused f
       → bodyTest s n k w ≡ Verdict.Refused f
   unfolding bodyTest
   body-rows e g = after-fine _ e ∙ after-refused _ g
 
-  pub body-end : (p : ℕ) → orderFrom s n 0 n ≡ Verdict.Fine → rowsOf s n k w .verdict ≡ Verdict.Fine
-      → p ≡ rowsOf s n k w .bit → bodyTest s n k w ≡ endTest s p
+  pub body-end : (p : ℕ) → orderFrom s n 0 n ≡ Verdict.Fine → rowsFrom s n k w 0 n ≡ Verdict.Fine
+      → p ≡ rowBit s n n → bodyTest s n k w ≡ endTest s p
   unfolding bodyTest
   body-end p e g q = after-fine _ e ∙ after-fine _ g ∙ ap (endTest s) (sym q)

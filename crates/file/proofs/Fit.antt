@@ -1,6 +1,6 @@
 -- An index that the writer's tests let through: every value fits its field, every row lies in the label room, and the file
 -- has as many bytes as the paper says.
-use Prim.Native.Nat.{ℕ, _+_, _*_, _/_, _≤_, _<_}
+use Prim.Native.Nat.{ℕ, _+_, _*_, _≤_, _<_}
 use mathlib.Core.Path.{_≡_, _∙_}
 use mathlib.Core.Bool.{true}
 use mathlib.Core.List.{List}
@@ -10,6 +10,7 @@ use lib.ListN.{length, getD}
 use lib.Dec.{leb}
 use Rattle.basics.specs.Places.{sum}
 use Rattle.basics.proofs.Laws.{both-true, both}
+use Rattle.refusal.specs.Numbers.{SIZE, LENGTH}
 use Rattle.refusal.specs.Sizes.{sizesFit, Sizes}
 use Rattle.refusal.specs.declared.Verdict.the-variants.{Fine}
 use Rattle.refusal.proofs.Laws.{test-fine, test-held, then-fine, after-fine}
@@ -18,12 +19,12 @@ use Rattle.links.proofs.Order.{order-sound}
 use Rattle.refusal.proofs.SizeLaws.{sizes-fit, sizes-held}
 use Rattle.rows.specs.Rooms.{RowLies, Rooms, rowAt, soundRow}
 use Rattle.rows.proofs.Laws.{Sound, row-sound}
-use Rattle.rows.proofs.RoomLaws.{row-lies, rows-alone, rows-sound, length-row}
+use Rattle.rows.proofs.RoomLaws.{row-lies, all-sound, length-row}
 use Rattle.file.specs.Bits.{bitLen, byteLen, Legal}
-use Rattle.file.specs.Layout.{headerFields, frameFields, orderFields, pairFields, rowFields, rowsFields, fileFields, fileOf, lengthsFit}
+use Rattle.file.specs.Layout.{headerFields, orderFields, rowFields, rowsFields, fileFields, fileOf, fileSize, lengthsFit}
 use Rattle.file.specs.Writer.{indexSizes, writeTests, Fit}
 use Rattle.file.proofs.Packed.{legal-append, packed-length}
-use Rattle.file.proofs.LayoutLaws.{each-legal, rows-bits, file-takes, rows-legal, lengths-fit, fit-lengths}
+use Rattle.file.proofs.LayoutLaws.{fields-legal, rows-bits, file-takes, lengths-fit, fit-lengths}
 
 -- what 1 and 2 let through
 pub sizes-in : (n k w : ℕ) → indexSizes n k w ≡ true → Sizes n w × (k ≤ n)
@@ -47,8 +48,8 @@ module _ (n k w : ℕ) (O labels counts : List ℕ) where
       let (size, rest) = then-fine _ _ e in
       let (lengths, rest2) = then-fine _ _ rest in
       let (once, sound) = then-fine _ _ rest2 in
-      let s : indexSizes n k w ≡ true = test-held _ 1 0 size in
-      let l : lengthsFit n w (length O) (length labels) (length counts) ≡ true = test-held _ 2 0 lengths in
+      let s : indexSizes n k w ≡ true = test-held _ SIZE 0 size in
+      let l : lengthsFit n w (length O) (length labels) (length counts) ≡ true = test-held _ LENGTH 0 lengths in
       record {
         rooms = rooms-in n k w O labels counts s l;
         stop = sizes-in n k w s .1;
@@ -63,15 +64,15 @@ module _ (n k w : ℕ) (O labels counts : List ℕ) where
     unfolding writeTests indexSizes
     fit-fine =
         let r = f .rooms in
-        after-fine _ (test-fine 1 0 (both _ _ (sizes-fit n w (r .sizes)) (le-leb k n (f .stop))))
-        ∙ after-fine _ (test-fine 2 0 (lengths-fit n w (length O) (length labels) (length counts) (f .long) (r .places) (r .each)))
+        after-fine _ (test-fine SIZE 0 (both _ _ (sizes-fit n w (r .sizes)) (le-leb k n (f .stop))))
+        ∙ after-fine _ (test-fine LENGTH 0 (lengths-fit n w (length O) (length labels) (length counts) (f .long) (r .places) (r .each)))
         ∙ after-fine _ (f .once) ∙ f .sound
 
     pub fit-order : Order n O
     fit-order = order-sound n O (f .once) (f .long)
 
     sound-at : (v : ℕ) → v < n → soundRow k n w labels counts v ≡ true
-    sound-at = rows-sound k n w labels counts (rows-alone k n w labels counts (f .rooms) ∙ f .sound) .1
+    sound-at = all-sound k n w labels counts (f .sound)
 
     pub fit-count : (v : ℕ) → v < n → getD counts v 0 ≤ w
     fit-count v h = row-sound k n w labels counts v (sound-at v h) .0
@@ -96,7 +97,7 @@ module _ (n k w : ℕ) (O labels counts : List ℕ) where
         let s : Sound k n (rowAt w labels counts v) (getD counts v 0) = fit-row v h in
         let l : length (rowAt w labels counts v) ≡ getD counts v 0 = fit-length v h in
         let stop : k ≤ n = f .stop in
-        (omega arith, each-legal pairFields (rowAt w labels counts v) (λ i b. (omega (arith, s .rank i (omega arith)), (omega (arith, s .joins i (omega arith)), tt))))
+        (omega arith, fields-legal _ 0 (length (rowAt w labels counts v)) (λ i b. (omega (arith, s .rank i (omega arith)), (omega (arith, s .joins i (omega arith)), tt))))
 
     pub fit-legal : Legal (fileFields n k w O labels counts)
     unfolding fileFields Legal headerFields
@@ -113,8 +114,8 @@ module _ (n k w : ℕ) (O labels counts : List ℕ) where
               (
                 omega arith,
                 legal-append (orderFields O) (rowsFields w labels counts 0 n)
-                    (each-legal frameFields O (λ r h. (omega (arith, fit-order .inside r (omega arith)), tt)))
-                    (rows-legal w labels counts 0 n (λ u h. row-legal u (omega arith))),
+                    (fields-legal _ 0 (length O) (λ r h. (omega (arith, fit-order .inside r (omega arith)), tt)))
+                    (fields-legal _ 0 n (λ u h. row-legal u (omega arith))),
               ),
             ),
           ),
@@ -129,7 +130,6 @@ module _ (n k w : ℕ) (O labels counts : List ℕ) where
         rows-bits w labels counts 0 n (omega arith) (λ u h. fit-length u (omega arith)) in
         omega (arith, file-takes n k w O labels counts)
 
-    -- with E entries the file has 4 + (21n + 24E) / 8 bytes, the quotient rounded up
-    pub file-bytes : length (fileOf n k w O labels counts) ≡ 4 + (21 * n + 24 * sum counts + 7) / 8
+    pub file-bytes : length (fileOf n k w O labels counts) ≡ fileSize n (sum counts)
     unfolding fileOf byteLen
     file-bytes = packed-length (fileFields n k w O labels counts) ∙ omega (arith, file-bits)

@@ -1,69 +1,80 @@
--- The field lists of the layout: how many bits they take, when every value fits its width, and that the same index has the
--- same file; and the lengths of the rooms.
+-- The field lists of the layout: how many bits they take, and when every value fits its width; and the lengths of the
+-- rooms.
 use Prim.Native.Nat.{ℕ, zero, suc, _+_, _-_, _*_, _≤_, _<_}
-use mathlib.Core.Path.{_≡_, refl, sym, ap, ap₂, subst, _∙_}
+use mathlib.Core.Path.{_≡_, refl, sym, ap, subst, _∙_}
 use mathlib.Core.Bool.{true}
-use mathlib.Core.List.{List, [], _∷_, _++_}
+use mathlib.Core.List.{List, [], _++_}
 use native.Mathlib.Omega.{arith}
-use native.Mathlib.Nat.{add-zero, zero-add, mul-zero, mul-suc}
+use native.Mathlib.Nat.{add-zero, zero-add}
 use native.Mathlib.Numerals.{add-one}
+use native.Mathlib.Decide.{ℕ-discrete}
 use borrow.Author.Tests.{eq-eqb, eqb-true}
-use lib.ListN.{length, getD, drop, drop-of-length-le}
+use lib.ListN.{length, getD, drop}
 use lib.Seq.{drop-cons}
 use Rattle.basics.specs.Places.{sum}
-use Rattle.basics.proofs.Laws.{both, both-true}
+use Rattle.basics.proofs.Laws.{by-cases, both, both-true, less-one, sum-over}
 use Rattle.rows.specs.Rooms.{rowAt}
-use Rattle.file.specs.Bits.{Field, field, bitLen, packed, Legal, Reads}
-use Rattle.file.specs.Layout.{eachOf, headerFields, frameFields, orderFields, pairFields, entryFields, rowFields, rowsFields, fileFields, fileOf, lengthsFit, Stored, Same}
+use Rattle.file.specs.Bits.{Field, fieldAt, bitLen, Legal, Reads}
+use Rattle.file.specs.Layout.{fieldsFrom, headerFields, frameFields, orderFields, pairFields, rowFields, rowsFields, fileFields, lengthsFit}
+use Rattle.file.specs.Reader.{behind}
 use Rattle.file.proofs.Bits.{bitLen-append}
 use Rattle.file.proofs.Packed.{legal-append, reads-append, reads-front, reads-back}
 
--- ---- the fields of each element of a list
+-- ---- the fields of one place after another
 
 module _ (one : ℕ → List Field) where
-  -- those left begin with those of the next element
-  pub each-next : (l : List ℕ) (i : ℕ) → i < length l → eachOf one (drop i l) ≡ one (getD l i 0) ++ eachOf one (drop (i + 1) l)
-  unfolding eachOf
-  each-next l i h = rw (add-one i, drop-cons l i 0 h)
+  -- up to an end, as a loop goes
+  pub fields-next : (v end : ℕ) → v < end → fieldsFrom one v (end - v) ≡ one v ++ fieldsFrom one (v + 1) (end - (v + 1))
+  unfolding fieldsFrom
+  fields-next v end h =
+      ap (fieldsFrom one v) (less-one h) ∙ ap (λ (u : ℕ). one v ++ fieldsFrom one u (end - (v + 1))) (sym (add-one v))
 
-  pub each-end : (l : List ℕ) (i : ℕ) → length l ≤ i → eachOf one (drop i l) ≡ []
-  unfolding eachOf
-  each-end l i h = ap (eachOf one) (drop-of-length-le l h)
+  pub fields-end : (v end : ℕ) → end ≤ v → fieldsFrom one v (end - v) ≡ []
+  unfolding fieldsFrom
+  fields-end v end h = let none : end - v ≡ 0 = omega arith in ap (fieldsFrom one v) none
 
-  pub each-legal : (l : List ℕ) → ((i : ℕ) → i < length l → Legal (one (getD l i 0))) → Legal (eachOf one l)
-  unfolding Legal eachOf
-  each-legal [] h = tt
-  each-legal (x ∷ xs) h =
-      legal-append (one x) (eachOf one xs) (h 0 (omega arith)) (each-legal xs (λ i l. h (suc i) (omega arith)))
+  pub fields-legal : (v left : ℕ) → ((u : ℕ) → u < v + left → Legal (one u)) → Legal (fieldsFrom one v left)
+  unfolding Legal fieldsFrom
+  fields-legal v zero h = tt
+  fields-legal v (suc left) h =
+      legal-append (one v) (fieldsFrom one (suc v) left) (h v (omega arith)) (fields-legal (suc v) left (λ u l. h u (omega arith)))
 
-  -- each element takes as many bits
-  module _ (bits : ℕ) (wide : (x : ℕ) → bitLen (one x) ≡ bits) where
-    pub each-bits : (l : List ℕ) → bitLen (eachOf one l) ≡ bits * length l
-    unfolding bitLen eachOf
-    each-bits [] = sym (mul-zero bits)
-    each-bits (x ∷ xs) = bitLen-append (one x) (eachOf one xs) ∙ omega (arith, wide x, each-bits xs, mul-suc bits (length xs))
+  -- place u has its fields from `bit u` on
+  module _ (bit : ℕ → ℕ) (n : ℕ) where
+    -- those from v on end at `bit n`
+    pub fields-take : ((u : ℕ) → u < n → bit u + bitLen (one u) ≡ bit (suc u)) → (v left : ℕ) → v + left ≡ n
+        → bit v + bitLen (fieldsFrom one v left) ≡ bit n
+    unfolding fieldsFrom bitLen
+    fields-take next v zero e = let all : v ≡ n = omega arith in add-zero (bit v) ∙ ap bit all
+    fields-take next v (suc left) e =
+        omega (
+          arith,
+          bitLen-append (one v) (fieldsFrom one (suc v) left),
+          next v (omega arith),
+          fields-take next (suc v) left (omega arith),
+        )
 
-    on-from : (p x i : ℕ) → p + bitLen (one x) + bits * i ≡ p + bits * suc i
-    on-from p x i = omega (arith, wide x, mul-suc bits i)
+    -- where all are read each is, and the other way; where a place ends may hang on what is read at it
+    pub fields-found : (s : List ℕ) → ((u : ℕ) → u < n → Reads s (bit u) (one u) → bit u + bitLen (one u) ≡ bit (suc u))
+        → (v left : ℕ) → v + left ≡ n → Reads s (bit v) (fieldsFrom one v left) → (u : ℕ) → v ≤ u → u < n → Reads s (bit u) (one u)
+    unfolding fieldsFrom
+    fields-found s next v zero e r u a b = absurd (omega arith)
+    fields-found s next v (suc left) e r u a b =
+        let here : Reads s (bit v) (one v) = reads-front s (bit v) (one v) (fieldsFrom one (suc v) left) r in
+        let rest : Reads s (bit v + bitLen (one v)) (fieldsFrom one (suc v) left) = reads-back s (bit v) (one v) _ r in
+        by-cases (ℕ-discrete v u)
+        (λ (q : v ≡ u). subst (λ (x : ℕ). Reads s (bit x) (one x)) q here)
+        (λ q.
+        fields-found s next (suc v) left (omega arith)
+        (subst (λ (p : ℕ). Reads s p (fieldsFrom one (suc v) left)) (next v (omega arith) here) rest) u (omega arith) b)
 
-    -- element i is read where its bits stand, and a list is read where each element is
-    pub each-found : (s : List ℕ) (p : ℕ) (l : List ℕ) → Reads s p (eachOf one l) → (i : ℕ) → i < length l
-        → Reads s (p + bits * i) (one (getD l i 0))
-    unfolding eachOf
-    each-found s p [] h i b = absurd (omega arith)
-    each-found s p (x ∷ xs) h zero b = rw (mul-zero bits, add-zero p) (reads-front s p (one x) (eachOf one xs) h)
-    each-found s p (x ∷ xs) h (suc i) b =
-        subst (λ (q : ℕ). Reads s q (one (getD xs i 0))) (on-from p x i)
-        (each-found s (p + bitLen (one x)) xs (reads-back s p (one x) (eachOf one xs) h) i (omega arith))
-
-    pub each-reads : (s : List ℕ) (p : ℕ) (l : List ℕ) → ((i : ℕ) → i < length l → Reads s (p + bits * i) (one (getD l i 0)))
-        → Reads s p (eachOf one l)
-    unfolding Reads eachOf
-    each-reads s p [] h = tt
-    each-reads s p (x ∷ xs) h =
-        let first : p + bits * 0 ≡ p = omega (arith, mul-zero bits) in
-        reads-append s p (one x) (eachOf one xs) (subst (λ (q : ℕ). Reads s q (one x)) first (h 0 (omega arith)))
-        (each-reads s (p + bitLen (one x)) xs (λ i b. subst (λ (q : ℕ). Reads s q (one (getD xs i 0))) (sym (on-from p x i)) (h (suc i) (omega arith))))
+    pub fields-reads : (s : List ℕ) → ((u : ℕ) → u < n → bit u + bitLen (one u) ≡ bit (suc u))
+        → ((u : ℕ) → u < n → Reads s (bit u) (one u)) → (v left : ℕ) → v + left ≡ n → Reads s (bit v) (fieldsFrom one v left)
+    unfolding Reads fieldsFrom
+    fields-reads s next each v zero e = tt
+    fields-reads s next each v (suc left) e =
+        reads-append s (bit v) (one v) (fieldsFrom one (suc v) left) (each v (omega arith))
+        (subst (λ (p : ℕ). Reads s p (fieldsFrom one (suc v) left)) (sym (next v (omega arith))) (fields-reads s next each (suc v) left (omega arith)))
 
 -- ---- bits
 
@@ -71,44 +82,35 @@ pub header-bits : (n k : ℕ) → bitLen (headerFields n k) ≡ 32
 unfolding bitLen headerFields
 header-bits n k = refl
 
-pub frame-bits : (v : ℕ) → bitLen (frameFields v) ≡ 12
-unfolding bitLen
-frame-bits v = refl
-
 pub pair-bits : (e : ℕ) → bitLen (pairFields e) ≡ 24
 unfolding bitLen
 pair-bits e = refl
 
 pub order-bits : (O : List ℕ) → bitLen (orderFields O) ≡ 12 * length O
-order-bits O = each-bits frameFields 12 frame-bits O
+unfolding bitLen
+order-bits O =
+    omega (arith, fields-take (λ r. frameFields (getD O r 0)) (λ r. 12 * r) (length O) (λ u h. omega arith) 0 (length O) (zero-add _))
 
 pub row-bits : (w : ℕ) (labels counts : List ℕ) (v : ℕ) → length (rowAt w labels counts v) ≡ getD counts v 0 →
     bitLen (rowFields w labels counts v) ≡ 9 + 24 * getD counts v 0
 unfolding bitLen rowFields
-row-bits w labels counts v h = omega (arith, each-bits pairFields 24 pair-bits (rowAt w labels counts v))
+row-bits w labels counts v h =
+    let row : List ℕ = rowAt w labels counts v in
+    omega (arith, fields-take (λ i. pairFields (getD row i 0)) (λ i. 24 * i) (length row) (λ u l. omega arith) 0 (length row) (zero-add _))
 
-module _ (w : ℕ) (labels counts : List ℕ) (n v : ℕ) where
-  -- the rows left begin with that of v
-  pub rows-next : {u : ℕ} → u ≡ suc v → v < n
-      → rowsFields w labels counts v (n - v) ≡ rowFields w labels counts v ++ rowsFields w labels counts u (n - u)
-  unfolding rowsFields
-  rows-next {u} e h =
-      let left : n - v ≡ suc (n - u) = omega arith in
-      ap (rowsFields w labels counts v) left
-      ∙ ap (λ (x : ℕ). rowFields w labels counts v ++ rowsFields w labels counts x (n - u)) (sym e)
-
-  pub rows-end : n ≤ v → rowsFields w labels counts v (n - v) ≡ []
-  unfolding rowsFields
-  rows-end h = let none : n - v ≡ 0 = omega arith in ap (rowsFields w labels counts v) none
+-- so the next row stands behind one whose count was read
+pub row-behind : (s : List ℕ) (p w : ℕ) (labels counts : List ℕ) (v : ℕ) → length (rowAt w labels counts v) ≡ getD counts v 0
+    → fieldAt s p 9 ≡ getD counts v 0 → p + bitLen (rowFields w labels counts v) ≡ behind s p
+unfolding behind
+row-behind s p w labels counts v long count = omega (arith, row-bits w labels counts v long)
 
 -- the rows from v on
 pub rows-bits : (w : ℕ) (labels counts : List ℕ) (v left : ℕ) → v + left ≡ length counts →
     ((u : ℕ) → u < length counts → length (rowAt w labels counts u) ≡ getD counts u 0) →
     bitLen (rowsFields w labels counts v left) ≡ 9 * left + 24 * sum (drop v counts)
-unfolding bitLen rowsFields sum
+unfolding bitLen fieldsFrom sum
 rows-bits w labels counts v zero e h =
-    let d : sum (drop v counts) ≡ 0 = ap sum (drop-of-length-le counts {i = v} (omega arith)) in
-    omega arith
+    omega (arith, sum-over counts v (omega arith))
 rows-bits w labels counts v (suc left) e h =
     let in-counts : v < length counts = omega arith in
     let row : bitLen (rowFields w labels counts v) ≡ 9 + 24 * getD counts v 0 = row-bits w labels counts v (h v in-counts) in
@@ -131,56 +133,12 @@ file-takes n k w O labels counts =
       order-bits O,
     )
 
--- rows that stand one behind the other, row v from `bit v` on: those from v on, and the whole layout, end at `bit n`
+-- rows that stand one behind the other, row v from `bit v` on: the layout ends at `bit n`
 module _ (n k w : ℕ) (O labels counts : List ℕ) (bit : ℕ → ℕ) where
-  pub rows-take : ((u : ℕ) → u < n → bit u + bitLen (rowFields w labels counts u) ≡ bit (suc u)) → (v left : ℕ) → v + left ≡ n
-      → bit v + bitLen (rowsFields w labels counts v left) ≡ bit n
-  unfolding rowsFields bitLen
-  rows-take next v zero e = let all : v ≡ n = omega arith in add-zero (bit v) ∙ ap bit all
-  rows-take next v (suc left) e =
-      omega (
-        arith,
-        bitLen-append (rowFields w labels counts v) (rowsFields w labels counts (suc v) left),
-        next v (omega arith),
-        rows-take next (suc v) left (omega arith),
-      )
-
   pub file-ends : length O ≡ n → bit 0 ≡ 32 + 12 * n
       → ((u : ℕ) → u < n → bit u + bitLen (rowFields w labels counts u) ≡ bit (suc u))
       → bitLen (fileFields n k w O labels counts) ≡ bit n
-  file-ends long first next = omega (arith, file-takes n k w O labels counts, rows-take next 0 n (zero-add n))
-
--- ---- widths
-
-pub rows-legal : (w : ℕ) (labels counts : List ℕ) (v left : ℕ) →
-    ((u : ℕ) → u < v + left → Legal (rowFields w labels counts u)) → Legal (rowsFields w labels counts v left)
-unfolding Legal rowsFields
-rows-legal w labels counts v zero h = tt
-rows-legal w labels counts v (suc left) h =
-    legal-append (rowFields w labels counts v) (rowsFields w labels counts (suc v) left) (h v (omega arith))
-    (rows-legal w labels counts (suc v) left (λ u l. h u (omega arith)))
-
--- ---- the same index has the same fields, whatever its width
-
-rows-same : (w x : ℕ) (L M counts : List ℕ) (v left : ℕ) → ((u : ℕ) → u < v + left → rowAt w L counts u ≡ rowAt x M counts u) →
-    rowsFields w L counts v left ≡ rowsFields x M counts v left
-unfolding rowsFields rowFields
-rows-same w x L M counts v zero h = refl
-rows-same w x L M counts v (suc left) h =
-    ap₂ (λ (r : List ℕ) (fs : List Field). (field (getD counts v 0) 9 ∷ entryFields r) ++ fs) (h v (omega arith))
-    (rows-same w x L M counts (suc v) left (λ u b. h u (omega arith)))
-
-pub same-file : (a b : Stored) → Same a b →
-    fileOf (a .frames) (a .stop) (a .width) (a .order) (a .labels) (a .counts) ≡ fileOf (b .frames) (b .stop) (b .width) (b .order) (b .labels) (b .counts)
-unfolding fileOf fileFields
-same-file a b s =
-    let n : ℕ = a .frames in
-    let rows : rowsFields (a .width) (a .labels) (a .counts) 0 n ≡ rowsFields (b .width) (b .labels) (a .counts) 0 n =
-    rows-same (a .width) (b .width) (a .labels) (b .labels) (a .counts) 0 n
-    (λ u l. s .entries u (omega arith) ∙ ap (λ (c : List ℕ). rowAt (b .width) (b .labels) c u) (sym (s .counts))) in
-    ap (λ (fs : List Field). packed (headerFields n (a .stop) ++ (orderFields (a .order) ++ fs))) rows
-    ∙ ap₂ (λ (m k : ℕ). packed (headerFields m k ++ (orderFields (a .order) ++ rowsFields (b .width) (b .labels) (a .counts) 0 m))) (s .frames) (s .stop)
-    ∙ ap₂ (λ (O counts : List ℕ). packed (headerFields (b .frames) (b .stop) ++ (orderFields O ++ rowsFields (b .width) (b .labels) counts 0 (b .frames)))) (s .order) (s .counts)
+  file-ends long first next = omega (arith, file-takes n k w O labels counts, fields-take (rowFields w labels counts) bit n next 0 n (zero-add n))
 
 -- ---- lengths
 

@@ -1,17 +1,16 @@
 -- Success is 0, and nothing else: every refusal of the header and of the reader has a number of the paper's table, so the
 -- paper's numbers alone tell what was answered.
-use Prim.Native.Nat.{ℕ, zero, suc, _+_, _*_, _<_}
+use Prim.Native.Nat.{ℕ, _+_, _<_}
 use mathlib.Core.Path.{_≡_, refl, sym, ap, _∙_}
 use mathlib.Core.Bool.{Bool}
 use mathlib.Core.List.{List}
 use native.Mathlib.Omega.{arith}
 use lib.ListN.{length}
 use Rattle.refusal.specs.declared.Verdict.{Verdict}
-use Rattle.refusal.proofs.Laws.{Numbered, fine-numbered, test-numbered, then-numbered}
+use Rattle.refusal.proofs.Laws.{Numbered, test-numbered, then-numbered, tests-numbered}
 use Rattle.file.specs.declared.Opened.{Opened}
-use Rattle.file.specs.declared.Whole.{Whole}
 use Rattle.file.specs.Bits.{fieldAt}
-use Rattle.file.specs.Reader.{shortTest, fieldTest, framesOf, stopOf, headerTest, orderFieldTest, orderFrom, entryTest, entriesFrom, rowTest, behind, goOn, rowsFrom, rowsOf, endTest, bodyTest, readTest, opened, headerOf, filledIn, readOf, told, Told}
+use Rattle.file.specs.Reader.{shortTest, fieldTest, framesOf, stopOf, headerTest, orderFieldTest, entryTest, rowTest, endTest, bodyTest, readTest, opened, headerOf, filledIn, readOf, told, Told}
 use Rattle.file.proofs.Heading.{told-apart, frames-some}
 
 short : (s : List ℕ) (p width : ℕ) → Numbered (shortTest s p width)
@@ -28,41 +27,21 @@ header-numbered s =
     then-numbered _ _ (short s 0 4)
     (then-numbered _ _ (test-numbered _ _ 0 (omega arith)) (then-numbered _ _ (short s 4 12) (then-numbered _ _ (field s 16 13 _) (field s 29 3 _))))
 
-order : (s : List ℕ) (n r left : ℕ) → Numbered (orderFrom s n r left)
-unfolding orderFrom orderFieldTest
-order s n r zero = fine-numbered
-order s n r (suc left) = then-numbered _ _ (field s _ 12 _) (order s n (suc r) left)
-
-entries : (s : List ℕ) (n k p low left : ℕ) → Numbered (entriesFrom s n k p low left)
-unfolding entriesFrom entryTest
-entries s n k p low zero = fine-numbered
-entries s n k p low (suc left) =
-    then-numbered _ _ (then-numbered _ _ (field s p 12 _) (field s (p + 12) 12 _)) (entries s n k (p + 24) (fieldAt s p 12 + 1) left)
-
 row : (s : List ℕ) (n k w v p : ℕ) → Numbered (rowTest s n k w v p)
-unfolding rowTest
-row s n k w v p = then-numbered _ _ (field s p 9 _) (then-numbered _ _ (test-numbered _ _ v (omega arith)) (entries s n k (p + 9) 0 (fieldAt s p 9)))
-
-on : (t : Verdict) (v p : ℕ) (rest : Whole) → Numbered t → Numbered (rest .verdict) → Numbered (goOn t v p rest .verdict)
-unfolding goOn
-on Verdict.Fine v p rest a b = b
-on (Verdict.Refused r) v p rest a b = a
-
-rows : (s : List ℕ) (n k w v p left : ℕ) → Numbered (rowsFrom s n k w v p left .verdict)
-unfolding rowsFrom
-rows s n k w v p zero = fine-numbered
-rows s n k w v p (suc left) =
-    on (rowTest s n k w v p) v p (rowsFrom s n k w (suc v) (behind s p) left) (row s n k w v p)
-    (rows s n k w (suc v) (behind s p) left)
+unfolding rowTest entryTest
+row s n k w v p =
+    then-numbered _ _ (field s p 9 _)
+    (then-numbered _ _ (test-numbered _ _ v (omega arith))
+    (tests-numbered _ (λ i. then-numbered _ _ (field s _ 12 _) (field s _ 12 _)) 0 (fieldAt s p 9)))
 
 pub read-numbered : (s : List ℕ) (w order labels counts : ℕ) → Numbered (readTest s w order labels counts)
-unfolding readTest bodyTest rowsOf endTest
+unfolding readTest bodyTest orderFieldTest endTest
 read-numbered s w o l c =
     then-numbered _ _ (test-numbered _ _ 0 (omega arith))
     (then-numbered _ _ (header-numbered s)
     (then-numbered _ _ (test-numbered _ _ 0 (omega arith))
-    (then-numbered _ _ (order s (framesOf s) 0 (framesOf s))
-    (then-numbered _ _ (rows s (framesOf s) (stopOf s) w 0 (32 + 12 * framesOf s) (framesOf s))
+    (then-numbered _ _ (tests-numbered _ (λ r. field s _ 12 _) 0 (framesOf s))
+    (then-numbered _ _ (tests-numbered _ (λ v. row s (framesOf s) (stopOf s) w v _) 0 (framesOf s))
     (then-numbered _ _ (test-numbered _ _ _ (omega arith)) (test-numbered _ _ _ (omega arith)))))))
 
 shown : (v : Verdict) (s : List ℕ) → Numbered v →
@@ -83,7 +62,7 @@ pub header-tells : (s : List ℕ) (a : Opened) → told a ≡ told (headerOf s) 
 unfolding headerOf
 header-tells s a e = told-is (headerTest s) s a (header-numbered s) e
 
-answer-is : (v : Verdict) (s : List ℕ) (w : ℕ) (order labels counts : List ℕ)
+pub answer-is : (v : Verdict) (s : List ℕ) (w : ℕ) (order labels counts : List ℕ)
     → filledIn v s w order labels counts .answer ≡ opened v (framesOf s) (stopOf s)
 unfolding filledIn opened
 answer-is Verdict.Fine s w order labels counts = refl

@@ -1,21 +1,15 @@
 -- The laws by which every writing function is proved: what is written so far, followed by the fields left, is the whole.
-use Prim.Native.Nat.{ℕ, _+_, _-_, _*_, _≤_, _<_}
+use Prim.Native.Nat.{ℕ, _+_, _*_, _≤_, _<_}
 use mathlib.Core.Path.{_≡_, refl, sym, ap, subst, _∙_}
 use mathlib.Core.List.{List, [], _∷_, _++_}
 use native.Mathlib.Omega.{arith}
-use native.Mathlib.Nat.{add-zero, add-sub-of-le}
-use lib.ListN.{length, drop}
-use lib.Seq.{drop-drop}
+use native.Mathlib.Nat.{add-zero}
+use lib.ListN.{length}
+use Rattle.basics.proofs.Laws.{drop-later}
 use Rattle.file.specs.Bits.{Field, bitLen, num, Legal}
 use Rattle.file.specs.Pen.{penBits, penNum, Ready, Left, Put}
 use Rattle.file.specs.declared.put.Pen.{Pen}
 use Rattle.file.proofs.Bits.{num-append, bitLen-append}
-
--- what two lists share from a place on they share from any later place on
-pub drop-later : (o o₀ : List ℕ) (a b : ℕ) → a ≤ b → drop a o ≡ drop a o₀ → drop b o ≡ drop b o₀
-drop-later o o₀ a b h e =
-    let k : a + (b - a) ≡ b = add-sub-of-le h in
-    ap (λ (i : ℕ). drop i o) (sym k) ∙ sym (drop-drop (b - a) a o) ∙ ap (drop (b - a)) e ∙ drop-drop (b - a) a o₀ ∙ ap (λ (i : ℕ). drop i o₀) k
 
 pub legal-front : (fs gs : List Field) → Legal (fs ++ gs) → Legal fs
 unfolding Legal

@@ -11,16 +11,16 @@ use Rattle.refusal.specs.Sizes.{widthFits}
 use Rattle.refusal.specs.Tests.{refusal}
 use Rattle.refusal.specs.declared.Refusal.{Refusal}
 use Rattle.refusal.specs.declared.Verdict.{Verdict}
-use Rattle.refusal.proofs.Laws.{test-fine, test-refused, test-held, then-fine, after-fine, after-refused}
+use Rattle.refusal.proofs.Laws.{test-fine, test-refused, test-held, then-fine, after-fine, after-refused, tests-each}
 use Rattle.refusal.proofs.SizeLaws.{width-held}
 use Rattle.file.specs.declared.Opened.{Opened}
 use Rattle.file.specs.Layout.{lengthsFit}
-use Rattle.file.specs.Reader.{framesOf, stopOf, headerTest, frameAt, orderFrom, rowsOf, endTest, bodyTest, readTest, rowBit, countAt, labelAt, orderRead, labelsRead, countsRead, outcome, filledIn, readOf}
+use Rattle.file.specs.Reader.{framesOf, stopOf, headerTest, frameAt, orderFrom, rowsFrom, endTest, bodyTest, readTest, rowBit, countAt, labelAt, orderRead, labelsRead, countsRead, outcome, filledIn, readOf}
 use Rattle.file.specs.Stores.{filled, Ordered, Rowed}
 use Rattle.file.proofs.Fields.{row-fits}
 use Rattle.file.proofs.Heading.{Headed, headed, frames-most}
 use Rattle.file.proofs.LayoutLaws.{fit-lengths}
-use Rattle.file.proofs.Inversion.{rows-fine, rows-behind, bits-there}
+use Rattle.file.proofs.Inversion.{bits-there}
 use Rattle.file.proofs.Stores.{filled-table}
 
 -- ---- the tests in their order
@@ -59,7 +59,7 @@ pub record Readable (s : List ℕ) (w order labels counts : ℕ) : Type 0 where
   pub labelled : labels ≡ framesOf s * w
   pub counted : counts ≡ framesOf s
   pub ordered : orderFrom s (framesOf s) 0 (framesOf s) ≡ Verdict.Fine
-  pub rowed : rowsOf s (framesOf s) (stopOf s) w .verdict ≡ Verdict.Fine
+  pub rowed : rowsFrom s (framesOf s) (stopOf s) w 0 (framesOf s) ≡ Verdict.Fine
   pub ended : endTest s (rowBit s (framesOf s) (framesOf s)) ≡ Verdict.Fine
 
 pub readable : (s : List ℕ) (w order labels counts : ℕ) → readTest s w order labels counts ≡ Verdict.Fine
@@ -83,7 +83,7 @@ readable s w order labels counts e =
       counted = c;
       ordered = ordered;
       rowed = rowed;
-      ended = ap (endTest s) (sym (rows-behind s n (stopOf s) w rowed)) ∙ ended;
+      ended = ended;
     }
 
 -- its counts fit the width
@@ -92,7 +92,7 @@ pub count-fits : {s : List ℕ} {w order labels counts : ℕ} → Readable s w o
 unfolding countAt
 count-fits {s} {w} r v h =
     row-fits s (framesOf s) (stopOf s) w v (rowBit s (framesOf s) v)
-    (rows-fine s (framesOf s) (stopOf s) w (r .rowed) v h)
+    (tests-each _ (framesOf s) (r .rowed) v h)
 
 -- what the storing pass asks of the order and of the rows
 pub stores-order : {s : List ℕ} {w order labels counts n : ℕ} → Readable s w order labels counts → n ≡ framesOf s

@@ -5,15 +5,17 @@ use mathlib.Core.List.{List}
 use native.Mathlib.Omega.{arith}
 use native.Mathlib.Decide.{ℕ-discrete}
 use native.Mathlib.Numerals.{add-one}
-use native.Mathlib.Nat.{add-zero, zero-add, sub-zero, suc-mul, mul-le-mul-right}
+use native.Mathlib.Nat.{add-zero, zero-add, sub-zero, suc-mul}
 use lib.ListN.{length, getD, set, length-set}
 use lib.Seq.{getD-set-same, getD-set-other}
 use lib.Arith.{digits-div, digits-mod}
 use borrow.Author.Tests.{lt-ltb, le-ltb}
 use Rattle.basics.specs.Places.{table}
 use Rattle.basics.proofs.Laws.{by-cases, cond-true, cond-false, less-one, is-table}
+use Rattle.rows.specs.Rooms.{part}
+use Rattle.rows.proofs.Laws.{row-inside, part-table}
 use Rattle.file.specs.Bits.{fieldAt, byteLen}
-use Rattle.file.specs.Reader.{entryAt, cellOf, countAt, labelAt, behind, rowBit}
+use Rattle.file.specs.Reader.{entryAt, cellOf, countAt, labelAt, labelsRead, behind, rowBit}
 use Rattle.file.specs.Stores.{filled, entryFrom, nought, cellAt, Row, Rowed}
 use Rattle.file.proofs.Inversion.{bit-near}
 
@@ -143,11 +145,13 @@ unfolding labelAt
 label-cell s n w v i h =
     ap₂ (λ (u x : ℕ). cellOf s (rowBit s n u) (countAt s n u) x) (digits-div v h) (digits-mod v h)
 
--- a used one holds its entry
-pub label-entry : (s : List ℕ) (n w v i : ℕ) → i < w → i < countAt s n v
-    → labelAt s n w (v * w + i) ≡ entryAt s (rowBit s n v + 9 + 24 * i)
-unfolding cellOf
-label-entry s n w v i h c = label-cell s n w v i h ∙ cond-true _ 0 (lt-ltb i (countAt s n v) c)
+-- a used one of the room read holds its entry
+pub entry-read : (s : List ℕ) (n w v count i : ℕ) → v < n → count ≤ w → i < count → count ≡ countAt s n v
+    → getD (part w (labelsRead s n w) v count) i 0 ≡ entryAt s (rowBit s n v + 9 + 24 * i)
+unfolding labelsRead labelAt cellOf
+entry-read s n w v count i h fits low e =
+    part-table n w (λ u x. cellOf s (rowBit s n u) (countAt s n u) x) v count i h fits low
+    ∙ cond-true _ 0 (lt-ltb i (countAt s n v) (omega arith))
 
 -- in row v the label room's places are that row's
 pub cell-label : (s : List ℕ) (n w v j : ℕ) → v * w ≤ j → j < v * w + w
@@ -180,7 +184,7 @@ module _ {s : List ℕ} {n w : ℕ} {labels₀ counts₀ : List ℕ} {p base v :
     (asked : Rowed s n w (length labels₀) (length counts₀)) (k : RowsLeft s n w labels₀ counts₀ p base v labels counts) (h : v < n) where
   -- the row has its place
   pub next-room : base + w ≤ n * w
-  next-room = omega (arith, suc-mul v w, mul-le-mul-right {m = suc v} {n = n} w (omega arith), k .place)
+  next-room = omega (arith, row-inside {v = v} {n = n} {c = w} {w = w} h (omega arith), k .place)
 
   -- its bytes are there, and its count fits
   pub next-row : {count : ℕ} → count ≡ fieldAt s p 9 → Row s p count w (length labels) base

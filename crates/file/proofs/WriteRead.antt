@@ -5,33 +5,30 @@ use mathlib.Core.Path.{_≡_, refl, sym, ap, ap₂, subst, _∙_}
 use mathlib.Core.Bool.{false}
 use mathlib.Core.List.{List}
 use native.Mathlib.Omega.{arith}
-use native.Mathlib.Nat.{le-of-eq, lt-of-lt-of-le}
-use borrow.Author.Tests.{ne-eqb}
+use native.Mathlib.Numerals.{add-one}
+use native.Mathlib.Nat.{le-of-eq}
 use lib.ListN.{length, getD, take, drop}
-use lib.Dec.{eqb}
 use lib.Seq.{ext-getD}
-use Rattle.basics.specs.Places.{table}
-use Rattle.basics.proofs.Laws.{some-none, is-table, getD-table, length-table}
+use Rattle.basics.specs.Places.{stands}
+use Rattle.basics.proofs.Laws.{stands-not, is-table, length-table}
 use Rattle.refusal.specs.declared.Verdict.{Verdict}
-use Rattle.refusal.proofs.Laws.{after-fine}
-use Rattle.links.specs.Order.{stands}
+use Rattle.refusal.proofs.Laws.{tests-fine}
 use Rattle.rows.specs.Entry.{rankOf, entryOf}
-use Rattle.rows.specs.Rooms.{part, rowAt}
-use Rattle.rows.proofs.Laws.{Sound, entry-of-parts, getD-part, length-part, row-inside}
+use Rattle.rows.specs.Rooms.{rowAt}
+use Rattle.rows.proofs.Laws.{Sound, entry-of-parts, length-part}
 use Rattle.refusal.proofs.SizeLaws.{width-fits}
 use Rattle.file.specs.Bits.{fieldAt, bitLen, byteLen}
 use Rattle.file.specs.Layout.{fileFields, fileOf, stored, Same}
-use Rattle.file.specs.Reader.{shortTest, headerTest, frameAt, orderFrom, entriesFrom, rowTest, behind, whole, goOn, rowsFrom, rowsOf, bodyTest, readTest, rowBit, countAt, entryAt, labelAt, orderRead, labelsRead, countsRead, Outcome, outcome, filledIn, readOf}
+use Rattle.file.specs.Reader.{shortTest, headerTest, frameAt, orderFieldTest, entryTest, lowAt, rowTest, bodyTest, readTest, rowBit, countAt, entryAt, labelAt, orderRead, labelsRead, countsRead, Outcome, outcome, filledIn, readOf}
 use Rattle.file.specs.Writer.{wrote, writeOf}
 use Rattle.file.specs.declared.Opened.{Opened}
-use Rattle.file.specs.declared.Whole.{Whole}
 use Rattle.file.specs.declared.Written.{Written}
 use Rattle.file.proofs.Fields.{order-legal, entry-legal, row-entries, end-fine, body-end}
 use Rattle.file.proofs.Fit.{fit-order, fit-count, fit-row, fit-length}
 use Rattle.file.proofs.ReadBack.{Holds, file-holds, version-found, frames-found, stop-found, spare-found, frame-found, count-found, entry-found, row-end, last-end, order-fits}
 use Rattle.file.proofs.Heading.{header-fine as fine-header}
 use Rattle.file.proofs.Steps.{short-fine}
-use Rattle.file.proofs.Stores.{label-entry}
+use Rattle.file.proofs.Stores.{entry-read}
 use Rattle.file.proofs.LayoutLaws.{lengths-fit}
 use Rattle.file.proofs.Reader.{body-left}
 use Rattle.file.proofs.Writing.{Done, write-done, done-file}
@@ -55,40 +52,41 @@ module _ {s : List ℕ} {n k w : ℕ} {O labels counts : List ℕ} (h : Holds s 
 
   -- no frame stands twice
   new : (r : ℕ) → r < n → stands (frameAt s) r (frameAt s r) ≡ false
-  unfolding stands
   new r b =
-      some-none (λ j. eqb (frameAt s j) (frameAt s r)) 0 r
-      (λ j _ l. ne-eqb _ _ (λ e.
-      fit-order n k w O labels counts (h .fits) .once j r (omega arith) b
-      (sym (frame-found h j (omega arith)) ∙ e ∙ frame-found h r b)))
+      stands-not (frameAt s) r (frameAt s r)
+      (λ j l e. fit-order n k w O labels counts (h .fits) .once j r l b (sym (frame-found h j (omega arith)) ∙ e ∙ frame-found h r b))
 
-  order-fine : (r left : ℕ) → r + left ≡ n → orderFrom s n r left ≡ Verdict.Fine
-  unfolding orderFrom
-  order-fine r zero e = refl
-  order-fine r (suc left) e =
-      let b : r < n = omega arith in
+  order-fine : (r : ℕ) → r < n → orderFieldTest s n r ≡ Verdict.Fine
+  order-fine r b =
       let inside : frameAt s r < n = subst (λ (v : ℕ). v < n) (sym (frame-found h r b)) (fit-order n k w O labels counts (h .fits) .inside r b) in
-      after-fine _ (order-legal s n r (there (32 + 12 * r) 12 (omega (arith, order-fits h))) inside (new r b)) ∙ order-fine (suc r) left (omega arith)
+      order-legal s n r (there (32 + 12 * r) 12 (omega (arith, order-fits h))) inside (new r b)
 
-  -- the entries of row v from place i on
-  entries-fine : (v : ℕ) → v < n → (i low left : ℕ) → i + left ≡ getD counts v 0 →
-      (0 < left → low ≤ rankOf (getD (rowAt w labels counts v) i 0)) → entriesFrom s n k (rowBit s n v + 9 + 24 * i) low left ≡ Verdict.Fine
-  unfolding entriesFrom
-  entries-fine v b i low zero e l = refl
-  entries-fine v b i low (suc left) e l =
+  -- the ranks of row v rise
+  low-fine : (v : ℕ) → v < n → (i : ℕ) → i < getD counts v 0
+      → lowAt s (rowBit s n v + 9) i ≤ fieldAt s (rowBit s n v + 9 + 24 * i) 12
+  unfolding lowAt
+  low-fine v b zero c = omega arith
+  low-fine v b (suc i) c =
+      let next : i + 1 ≡ suc i = add-one i in
+      omega (
+        arith,
+        entry-found h v b i (omega arith) .0,
+        entry-found h v b (suc i) c .0,
+        ap (λ (j : ℕ). rankOf (getD (rowAt w labels counts v) j 0)) next,
+        fit-row n k w O labels counts (h .fits) v b .rising i (omega arith),
+      )
+
+  -- entry i of row v
+  entry-fine : (v : ℕ) → v < n → (i : ℕ) → i < getD counts v 0
+      → entryTest s n k (rowBit s n v + 9 + 24 * i) (lowAt s (rowBit s n v + 9) i) ≡ Verdict.Fine
+  entry-fine v b i c =
       let p : ℕ = rowBit s n v + 9 + 24 * i in
-      let row : List ℕ = rowAt w labels counts v in
-      let sound : Sound k n row (getD counts v 0) = fit-row n k w O labels counts (h .fits) v b in
-      let c : i < getD counts v 0 = omega arith in
+      let sound : Sound k n (rowAt w labels counts v) (getD counts v 0) = fit-row n k w O labels counts (h .fits) v b in
       let (rank, joins) = entry-found h v b i c in
       let end : rowBit s n v + 9 + 24 * getD counts v 0 ≤ bitLen (fileFields n k w O labels counts) = row-end h v b in
-      let low-fine : low ≤ fieldAt s p 12 = subst (λ (y : ℕ). low ≤ y) (sym rank) (l (omega arith)) in
       let rank-fine : fieldAt s p 12 < k = subst (λ (y : ℕ). y < k) (sym rank) (sound .rank i c) in
       let joins-fine : fieldAt s (p + 12) 12 < n = subst (λ (y : ℕ). y < n) (sym joins) (sound .joins i c) in
-      let next : p + 24 ≡ rowBit s n v + 9 + 24 * (i + 1) = omega arith in
-      after-fine _ (entry-legal s n k p low (there p 12 (omega arith)) low-fine rank-fine (there (p + 12) 12 (omega arith)) joins-fine)
-      ∙ ap (λ (q : ℕ). entriesFrom s n k q (fieldAt s p 12 + 1) left) next
-      ∙ entries-fine v b (i + 1) (fieldAt s p 12 + 1) left (omega arith) (λ m. omega (arith, sound .rising i (omega arith)))
+      entry-legal s n k p _ (there p 12 (omega arith)) (low-fine v b i c) rank-fine (there (p + 12) 12 (omega arith)) joins-fine
 
   -- ---- and of the rows, for a width that takes every count
   module _ (x : ℕ) (wide : (v : ℕ) → v < n → getD counts v 0 ≤ x) where
@@ -98,26 +96,12 @@ module _ {s : List ℕ} {n k w : ℕ} {O labels counts : List ℕ} (h : Holds s 
         let c : getD counts v 0 ≤ w = fit-count n k w O labels counts (h .fits) v b in
         let most : w ≤ 256 = h .fits .rooms .sizes .width in
         let e : getD counts v 0 ≡ fieldAt s (rowBit s n v) 9 = sym (count-found h v b) in
-        let z : rowBit s n v + 9 + 24 * 0 ≡ rowBit s n v + 9 = omega arith in
         row-entries s n k x v (rowBit s n v) (there (rowBit s n v) 9 (omega (arith, row-end h v b))) e (omega arith) (wide v b)
-        ∙ ap (λ (q : ℕ). entriesFrom s n k q 0 (getD counts v 0)) (sym z)
-        ∙ entries-fine v b 0 0 (getD counts v 0) (omega arith) (λ m. omega arith)
-
-    rows-fine : (v left : ℕ) → v + left ≡ n → rowsFrom s n k x v (rowBit s n v) left ≡ whole n (rowBit s n n) Verdict.Fine
-    unfolding rowsFrom goOn rowBit
-    rows-fine v zero e =
-        let all : v ≡ n = omega arith in
-        ap (λ (u : ℕ). whole u (rowBit s n u) Verdict.Fine) all
-    rows-fine v (suc left) e =
-        ap (λ (t : Verdict). goOn t v (rowBit s n v) (rowsFrom s n k x (suc v) (behind s (rowBit s n v)) left)) (row-fine v (omega arith))
-        ∙ rows-fine (suc v) left (omega arith)
+        ∙ tests-fine _ (getD counts v 0) (entry-fine v b)
 
     body-fine : bodyTest s n k x ≡ Verdict.Fine
-    unfolding rowsOf rowBit
     body-fine =
-        let rows : rowsOf s n k x ≡ whole n (rowBit s n n) Verdict.Fine = rows-fine 0 n (omega arith) in
-        body-end s n k x (bitLen (fileFields n k w O labels counts)) (order-fine 0 n (omega arith)) (ap (λ (y : Whole). y .verdict) rows)
-        (sym (last-end h) ∙ sym (ap (λ (y : Whole). y .bit) rows))
+        body-end s n k x (bitLen (fileFields n k w O labels counts)) (tests-fine _ n order-fine) (tests-fine _ n row-fine) (sym (last-end h))
         ∙ end-fine s (bitLen (fileFields n k w O labels counts)) (h .fill) (le-of-eq (h .long))
 
     pub read-fine : 1 ≤ x → x ≤ 256 → readTest s x n (n * x) n ≡ Verdict.Fine
@@ -137,30 +121,26 @@ module _ {s : List ℕ} {n k w : ℕ} {O labels counts : List ℕ} (h : Holds s 
     counts-same = sym (is-table 0 counts n (countAt s n) (h .fits .rooms .each) (λ v b. sym (count-found h v b)))
 
     -- entry i of row v
-    label-same : (v : ℕ) → v < n → (i : ℕ) → i < getD counts v 0 → labelAt s n x (v * x + i) ≡ getD (rowAt w labels counts v) i 0
-    unfolding entryAt rankOf
-    label-same v b i c =
+    entry-same : (v : ℕ) → v < n → (i : ℕ) → i < getD counts v 0
+        → getD (rowAt x (labelsRead s n x) counts v) i 0 ≡ getD (rowAt w labels counts v) i 0
+    unfolding rowAt entryAt rankOf
+    entry-same v b i c =
         let e : ℕ = getD (rowAt w labels counts v) i 0 in
         let sound : Sound k n (rowAt w labels counts v) (getD counts v 0) = fit-row n k w O labels counts (h .fits) v b in
         let small : rankOf e < k = sound .rank i c in
         let stop : k ≤ n = h .fits .stop in
         let most : n ≤ 4096 = h .fits .rooms .sizes .frames in
         let (rank, joins) = entry-found h v b i c in
-        label-entry s n x v i (lt-of-lt-of-le c (wide v b)) (subst (λ (m : ℕ). i < m) (sym (count-found h v b)) c)
+        entry-read s n x v (getD counts v 0) i b (wide v b) c (sym (count-found h v b))
         ∙ ap₂ entryOf rank joins ∙ entry-of-parts e (omega arith)
 
     pub entries-same : (v : ℕ) → v < n → rowAt w labels counts v ≡ rowAt x (labelsRead s n x) counts v
     unfolding rowAt labelsRead
     entries-same v b =
-        let count : ℕ = getD counts v 0 in
-        let L : List ℕ = table (n * x) (labelAt s n x) in
-        let long : length (part x L v count) ≡ count = length-part x L v count b (wide v b) (length-table (n * x) (labelAt s n x)) in
-        let old : length (rowAt w labels counts v) ≡ count = fit-length n k w O labels counts (h .fits) v b in
-        ext-getD 0 (rowAt w labels counts v) (part x L v count) (old ∙ sym long)
-        (λ i c.
-        let c1 : i < count = omega arith in
-        let place : v * x + i < n * x = omega (arith, row-inside {v = v} {n = n} {c = count} {w = x} b (wide v b)) in
-        sym (getD-part x L v count i c1 ∙ getD-table (n * x) (labelAt s n x) (v * x + i) 0 place ∙ label-same v b i c1))
+        let long : length (rowAt x (labelsRead s n x) counts v) ≡ getD counts v 0 =
+        length-part x _ v _ b (wide v b) (length-table (n * x) (labelAt s n x)) in
+        let old : length (rowAt w labels counts v) ≡ getD counts v 0 = fit-length n k w O labels counts (h .fits) v b in
+        ext-getD 0 _ _ (old ∙ sym long) (λ i c. sym (entry-same v b i (omega arith)))
 
     pub read-back : 1 ≤ x → x ≤ 256 → (order₁ labels₁ counts₁ : List ℕ) → length order₁ ≡ n → length labels₁ ≡ n * x → length counts₁ ≡ n →
         readOf s x order₁ labels₁ counts₁ ≡ outcome (Opened.Index n k) O (labelsRead s n x) counts

@@ -8,7 +8,7 @@ use borrow.Author.Tests.{le-leb, leb-true}
 use lib.ListN.{length, take, drop}
 use lib.Seq.{drop-drop, take-at, drop-at, length-take-le}
 use Rattle.basics.proofs.Laws.{both, both-true}
-use Rattle.refusal.specs.Numbers.{OUT}
+use Rattle.refusal.specs.Numbers.{SIZE, LENGTH, ORDER, ROW, OUT}
 use Rattle.refusal.specs.Tests.{_then_, numberOf, placeOf}
 use Rattle.refusal.specs.declared.Refusal.{Refusal}
 use Rattle.refusal.specs.declared.Verdict.{Verdict}
@@ -68,10 +68,10 @@ module _ (n k w : ℕ) (O labels counts out : List ℕ) (start : ℕ) where
   unfolding writeTests orderTest rowsTest outTest
   write-numbered =
       then-numbered _ _
-      (then-numbered _ _ (test-numbered _ 1 0 (omega arith))
-      (then-numbered _ _ (test-numbered _ 2 0 (omega arith))
-      (then-numbered _ _ (test-numbered _ 5 _ (omega arith)) (test-numbered _ 9 _ (omega arith)))))
-      (test-numbered _ 14 0 (omega arith))
+      (then-numbered _ _ (test-numbered _ SIZE 0 (omega arith))
+      (then-numbered _ _ (test-numbered _ LENGTH 0 (omega arith))
+      (then-numbered _ _ (test-numbered _ ORDER _ (omega arith)) (test-numbered _ ROW _ (omega arith)))))
+      (test-numbered _ OUT 0 (omega arith))
 
   -- no file is empty
   file-long : 4 ≤ length (fileOf n k w O labels counts)

@@ -1,46 +1,99 @@
 -- The field list of the index file: the one place that says which fields it has, in which order and how wide. n frames,
 -- stop k, width w, order O, label room and count room.
-use Prim.Native.Nat.{ℕ, zero, suc, _-_, _*_, _<_}
+use Prim.Native.Nat.{ℕ, zero, suc, _+_, _-_, _*_, _/_, _<_}
 use mathlib.Core.Path.{_≡_}
 use mathlib.Core.Bool.{Bool, _&&_}
 use mathlib.Core.List.{List, [], _∷_, _++_}
-use lib.ListN.{getD}
+use lib.ListN.{length, getD}
 use lib.Dec.{eqb}
 use Rattle.rows.specs.Entry.{rankOf, joinsOf}
 use Rattle.rows.specs.Rooms.{rowAt}
 use Rattle.file.specs.Bits.{Field, field, packed}
 
--- header of 32 bits: version 4, n - 1 in 12, k in 13, spare 3
+-- ---- how many bits a field takes, and where it stands
+
+-- the header: version, n - 1, k, spare
+abbrev pub versionBits : ℕ
+versionBits = 4
+
+abbrev pub framesBits : ℕ
+framesBits = 12
+
+abbrev pub stopBits : ℕ
+stopBits = 13
+
+abbrev pub spareBits : ℕ
+spareBits = 3
+
+-- a frame number of the order, a row's count, an entry's rank and joins
+abbrev pub frameBits : ℕ
+frameBits = 12
+
+abbrev pub countBits : ℕ
+countBits = 9
+
+abbrev pub rankBits : ℕ
+rankBits = 12
+
+abbrev pub joinsBits : ℕ
+joinsBits = 12
+
+abbrev pub entryBits : ℕ
+entryBits = rankBits + joinsBits
+
+-- the first bit of a header field; the version has bit 0
+abbrev pub framesBit : ℕ
+framesBit = versionBits
+
+abbrev pub stopBit : ℕ
+stopBit = framesBit + framesBits
+
+abbrev pub spareBit : ℕ
+spareBit = stopBit + stopBits
+
+-- of the order field of rank r; at that of n the rows begin
+abbrev pub orderBit : ℕ → ℕ
+orderBit r = spareBit + spareBits + frameBits * r
+
+-- of the joins of an entry at bit p, and of entry i of a row at bit p
+abbrev pub joinsBit : ℕ → ℕ
+joinsBit p = p + rankBits
+
+abbrev pub entryBit : ℕ → ℕ → ℕ
+entryBit p i = p + countBits + entryBits * i
+
+-- ---- the fields
+
+-- the header of 32 bits
 unfoldable pub headerFields : ℕ → ℕ → List Field
-headerFields n k = field 1 4 ∷ field (n - 1) 12 ∷ field k 13 ∷ field 0 3 ∷ []
+headerFields n k = field 1 versionBits ∷ field (n - 1) framesBits ∷ field k stopBits ∷ field 0 spareBits ∷ []
 
--- the fields of each element of a list, one element behind the other
-unfoldable pub eachOf : (ℕ → List Field) → List ℕ → List Field
-eachOf one [] = []
-eachOf one (x ∷ xs) = one x ++ eachOf one xs
+-- the fields of `left` places from v on, one place behind the other
+unfoldable pub fieldsFrom : (ℕ → List Field) → ℕ → ℕ → List Field
+fieldsFrom one v zero = []
+fieldsFrom one v (suc left) = one v ++ fieldsFrom one (suc v) left
 
--- the order: 12 bits for each frame number
+-- the order: a field for each frame number
 abbrev pub frameFields : ℕ → List Field
-frameFields v = field v 12 ∷ []
+frameFields v = field v frameBits ∷ []
 
 abbrev pub orderFields : List ℕ → List Field
-orderFields O = eachOf frameFields O
+orderFields O = fieldsFrom (λ r. frameFields (getD O r 0)) 0 (length O)
 
--- the entries of a row: rank 12, joins 12
+-- the entries of a row: rank, joins
 abbrev pub pairFields : ℕ → List Field
-pairFields e = field (rankOf e) 12 ∷ field (joinsOf e) 12 ∷ []
+pairFields e = field (rankOf e) rankBits ∷ field (joinsOf e) joinsBits ∷ []
 
 abbrev pub entryFields : List ℕ → List Field
-entryFields row = eachOf pairFields row
+entryFields row = fieldsFrom (λ i. pairFields (getD row i 0)) 0 (length row)
 
--- a row: a count of 9 and its entries
+-- a row: its count and its entries
 unfoldable pub rowFields : ℕ → List ℕ → List ℕ → ℕ → List Field
-rowFields w labels counts v = field (getD counts v 0) 9 ∷ entryFields (rowAt w labels counts v)
+rowFields w labels counts v = field (getD counts v 0) countBits ∷ entryFields (rowAt w labels counts v)
 
 -- `left` rows from frame v on
-unfoldable pub rowsFields : ℕ → List ℕ → List ℕ → ℕ → ℕ → List Field
-rowsFields w labels counts v zero = []
-rowsFields w labels counts v (suc left) = rowFields w labels counts v ++ rowsFields w labels counts (suc v) left
+abbrev pub rowsFields : ℕ → List ℕ → List ℕ → ℕ → ℕ → List Field
+rowsFields w labels counts v left = fieldsFrom (rowFields w labels counts) v left
 
 -- the fields of the whole file
 unfoldable pub fileFields : ℕ → ℕ → ℕ → List ℕ → List ℕ → List ℕ → List Field
@@ -49,6 +102,10 @@ fileFields n k w O labels counts = headerFields n k ++ (orderFields O ++ rowsFie
 -- the file's bytes
 unfoldable pub fileOf : ℕ → ℕ → ℕ → List ℕ → List ℕ → List ℕ → List ℕ
 fileOf n k w O labels counts = packed (fileFields n k w O labels counts)
+
+-- with E entries the file has 4 + (21n + 24E) / 8 bytes, the quotient rounded up
+abbrev pub fileSize : ℕ → ℕ → ℕ
+fileSize n entries = 4 + (21 * n + 24 * entries + 7) / 8
 
 -- the lengths of an index's rooms: the order n, the labels n * W, the counts n
 unfoldable pub lengthsFit : ℕ → ℕ → ℕ → ℕ → ℕ → Bool

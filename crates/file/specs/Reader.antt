@@ -8,14 +8,13 @@ use lib.Dec.{leb, ltb, eqb}
 use Rattle.basics.specs.Places.{table}
 use Rattle.refusal.specs.Numbers.{SIZE, LENGTH, ROOM, SHORT, VERSION, FIELD, LONG}
 use Rattle.refusal.specs.Sizes.{widthFits}
-use Rattle.refusal.specs.Tests.{test, _then_}
+use Rattle.refusal.specs.Tests.{test, _then_, testsFrom}
 use Rattle.refusal.specs.declared.Verdict.{Verdict}
 use Rattle.links.specs.Order.{faultyRank}
 use Rattle.rows.specs.Entry.{entryOf}
 use Rattle.file.specs.declared.Opened.{Opened}
-use Rattle.file.specs.declared.Whole.{Whole}
 use Rattle.file.specs.Bits.{fieldAt, byteLen, padLen}
-use Rattle.file.specs.Layout.{lengthsFit}
+use Rattle.file.specs.Layout.{versionBits, framesBits, stopBits, spareBits, frameBits, countBits, rankBits, joinsBits, entryBits, framesBit, stopBit, spareBit, orderBit, joinsBit, entryBit, lengthsFit}
 
 -- ---- one field
 
@@ -29,83 +28,71 @@ fieldTest s p width legal = shortTest s p width then test legal FIELD p
 
 -- ---- the header of 32 bits
 
--- n - 1 in 12
+-- n: its field holds n - 1
 unfoldable pub framesOf : List ℕ → ℕ
-framesOf s = fieldAt s 4 12 + 1
+framesOf s = fieldAt s framesBit framesBits + 1
 
--- k in 13
+-- k
 unfoldable pub stopOf : List ℕ → ℕ
-stopOf s = fieldAt s 16 13
+stopOf s = fieldAt s stopBit stopBits
 
--- version 4 (value 1), n - 1 in 12, k in 13 (over n: FIELD), spare 3 (not 0: FIELD)
+-- version (value 1), n - 1, k (over n: FIELD), spare (not 0: FIELD)
 unfoldable pub headerTest : List ℕ → Verdict
 headerTest s =
-    shortTest s 0 4 then test (eqb (fieldAt s 0 4) 1) VERSION 0
-    then shortTest s 4 12
-    then fieldTest s 16 13 (leb (stopOf s) (framesOf s))
-    then fieldTest s 29 3 (eqb (fieldAt s 29 3) 0)
+    shortTest s 0 versionBits then test (eqb (fieldAt s 0 versionBits) 1) VERSION 0
+    then shortTest s framesBit framesBits
+    then fieldTest s stopBit stopBits (leb (stopOf s) (framesOf s))
+    then fieldTest s spareBit spareBits (eqb (fieldAt s spareBit spareBits) 0)
 
 -- ---- the order
 
 -- the frame of rank r, as the file gives it
 unfoldable pub frameAt : List ℕ → ℕ → ℕ
-frameAt s r = fieldAt s (32 + 12 * r) 12
+frameAt s r = fieldAt s (orderBit r) frameBits
 
--- an order field of 12 (n or more, or a repeat: FIELD)
+-- an order field (n or more, or a repeat: FIELD)
 unfoldable pub orderFieldTest : List ℕ → ℕ → ℕ → Verdict
-orderFieldTest s n r = fieldTest s (32 + 12 * r) 12 (not (faultyRank n (frameAt s) r))
+orderFieldTest s n r = fieldTest s (orderBit r) frameBits (not (faultyRank n (frameAt s) r))
 
 -- `left` order fields from rank r on
-unfoldable pub orderFrom : List ℕ → ℕ → ℕ → ℕ → Verdict
-orderFrom s n r zero = Verdict.Fine
-orderFrom s n r (suc left) =
-    let rest : Verdict = orderFrom s n (suc r) left in
-    orderFieldTest s n r then rest
+abbrev pub orderFrom : List ℕ → ℕ → ℕ → ℕ → Verdict
+orderFrom s n r left = testsFrom (orderFieldTest s n) r left
 
 -- ---- the rows
 
--- rank 12 (k or more, or not above the one before: FIELD), joins 12 (n or more: FIELD); `low` is one above the rank before
+-- rank (k or more, or not above the one before: FIELD), joins (n or more: FIELD); `low` is one above the rank before
 unfoldable pub entryTest : List ℕ → ℕ → ℕ → ℕ → ℕ → Verdict
 entryTest s n k p low =
-    fieldTest s p 12 (leb low (fieldAt s p 12) && ltb (fieldAt s p 12) k)
-    then fieldTest s (p + 12) 12 (ltb (fieldAt s (p + 12) 12) n)
+    fieldTest s p rankBits (leb low (fieldAt s p rankBits) && ltb (fieldAt s p rankBits) k)
+    then fieldTest s (joinsBit p) joinsBits (ltb (fieldAt s (joinsBit p) joinsBits) n)
 
--- `left` entries from bit p on
-unfoldable pub entriesFrom : List ℕ → ℕ → ℕ → ℕ → ℕ → ℕ → Verdict
-entriesFrom s n k p low zero = Verdict.Fine
-entriesFrom s n k p low (suc left) =
-    let rest : Verdict = entriesFrom s n k (p + 24) (fieldAt s p 12 + 1) left in
-    entryTest s n k p low then rest
+-- one above the rank before entry i, and 0 before the first; entries from bit p on
+unfoldable pub lowAt : List ℕ → ℕ → ℕ → ℕ
+lowAt s p zero = 0
+lowAt s p (suc i) = fieldAt s (p + entryBits * i) rankBits + 1
 
--- for frame v a count of 9 (over 256: FIELD; else over W: ROOM) and its entries
+-- `left` entries from entry i on, where the first stands at bit p
+abbrev pub entriesFrom : List ℕ → ℕ → ℕ → ℕ → ℕ → ℕ → Verdict
+entriesFrom s n k p i left = testsFrom (λ j. entryTest s n k (p + entryBits * j) (lowAt s p j)) i left
+
+-- for frame v a count (over 256: FIELD; else over W: ROOM) and its entries
 unfoldable pub rowTest : List ℕ → ℕ → ℕ → ℕ → ℕ → ℕ → Verdict
 rowTest s n k w v p =
-    let entries : Verdict = entriesFrom s n k (p + 9) 0 (fieldAt s p 9) in
-    fieldTest s p 9 (leb (fieldAt s p 9) 256) then test (leb (fieldAt s p 9) w) ROOM v then entries
+    let entries : Verdict = entriesFrom s n k (p + countBits) 0 (fieldAt s p countBits) in
+    fieldTest s p countBits (leb (fieldAt s p countBits) 256) then test (leb (fieldAt s p countBits) w) ROOM v then entries
 
 -- the bit behind the row at bit p
 unfoldable pub behind : List ℕ → ℕ → ℕ
-behind s p = p + 9 + 24 * fieldAt s p 9
+behind s p = entryBit p (fieldAt s p countBits)
 
--- how many rows were whole, the bit behind them, and what came next
-abbrev pub whole : ℕ → ℕ → Verdict → Whole
-whole rows bit verdict = record { rows = rows; bit = bit; verdict = verdict }
+-- the bit at which row v starts
+unfoldable pub rowBit : List ℕ → ℕ → ℕ → ℕ
+rowBit s n zero = orderBit n
+rowBit s n (suc v) = behind s (rowBit s n v)
 
--- the first row that is refused ends the rows
-unfoldable pub goOn : Verdict → ℕ → ℕ → Whole → Whole
-goOn Verdict.Fine v p rest = rest
-goOn (Verdict.Refused r) v p rest = whole v p (Verdict.Refused r)
-
--- `left` rows from frame v and bit p on
-unfoldable pub rowsFrom : List ℕ → ℕ → ℕ → ℕ → ℕ → ℕ → ℕ → Whole
-rowsFrom s n k w v p zero = whole v p Verdict.Fine
-rowsFrom s n k w v p (suc left) =
-    let rest : Whole = rowsFrom s n k w (suc v) (behind s p) left in
-    goOn (rowTest s n k w v p) v p rest
-
--- all rows, behind the order
-unfoldable pub rowsOf : List ℕ → ℕ → ℕ → ℕ → Whole
-rowsOf s n k w = rowsFrom s n k w 0 (32 + 12 * n) n
+-- `left` rows from frame v on
+abbrev pub rowsFrom : List ℕ → ℕ → ℕ → ℕ → ℕ → ℕ → Verdict
+rowsFrom s n k w v left = testsFrom (λ u. rowTest s n k w u (rowBit s n u)) v left
 
 -- ---- the end
 
@@ -116,9 +103,7 @@ endTest s p =
 
 -- everything behind the header, in bit order, then 13
 unfoldable pub bodyTest : List ℕ → ℕ → ℕ → ℕ → Verdict
-bodyTest s n k w =
-    let rows : Whole = rowsOf s n k w in
-    orderFrom s n 0 n then rows .verdict then endTest s (rows .bit)
+bodyTest s n k w = orderFrom s n 0 n then rowsFrom s n k w 0 n then endTest s (rowBit s n n)
 
 -- ---- the reader
 
@@ -141,22 +126,17 @@ headerOf s = opened (headerTest s) (framesOf s) (stopOf s)
 
 -- ---- what the rooms hold
 
--- the bit at which row v starts
-unfoldable pub rowBit : List ℕ → ℕ → ℕ → ℕ
-rowBit s n zero = 32 + 12 * n
-rowBit s n (suc v) = behind s (rowBit s n v)
-
 -- the count of frame v
 unfoldable pub countAt : List ℕ → ℕ → ℕ → ℕ
-countAt s n v = fieldAt s (rowBit s n v) 9
+countAt s n v = fieldAt s (rowBit s n v) countBits
 
 -- the entry at bit p
 unfoldable pub entryAt : List ℕ → ℕ → ℕ
-entryAt s p = entryOf (fieldAt s p 12) (fieldAt s (p + 12) 12)
+entryAt s p = entryOf (fieldAt s p rankBits) (fieldAt s (joinsBit p) joinsBits)
 
 -- place i of the row of `count` entries at bit p: its entry, and 0 in unused places
 unfoldable pub cellOf : List ℕ → ℕ → ℕ → ℕ → ℕ
-cellOf s p count i = cond (ltb i count) (entryAt s (p + 9 + 24 * i)) 0
+cellOf s p count i = cond (ltb i count) (entryAt s (entryBit p i)) 0
 
 -- a place of the label room: place v * w + i is place i of row v
 unfoldable pub labelAt : List ℕ → ℕ → ℕ → ℕ → ℕ

@@ -4,6 +4,7 @@ use mathlib.Core.Path.{_≡_}
 use mathlib.Core.List.{List}
 use lib.ListN.{length, set}
 use Rattle.file.specs.Bits.{byteLen}
+use Rattle.file.specs.Layout.{entryBits, orderBit, entryBit}
 use Rattle.file.specs.Reader.{entryAt, cellOf, countAt, rowBit}
 
 -- a room in which each of the `left` places from `a` on holds `f` of that place
@@ -13,7 +14,7 @@ filled f l a (suc left) = filled f (set l a (f a)) (suc a) left
 
 -- entries from bit p on, from place `base` on
 unfoldable pub entryFrom : List ℕ → ℕ → ℕ → ℕ → ℕ
-entryFrom s p base at = entryAt s (p + 24 * (at - base))
+entryFrom s p base at = entryAt s (p + entryBits * (at - base))
 
 -- 0 everywhere
 unfoldable pub nought : ℕ → ℕ
@@ -27,7 +28,7 @@ cellAt s p count base at = cellOf s p count (at - base)
 pub record Entries (s : List ℕ) (p count labels base : ℕ) : Type 0 where
   pub near : p < 2 ^ 29
   pub most : count ≤ 256
-  pub there : byteLen (p + 24 * count) ≤ length s
+  pub there : byteLen (p + entryBits * count) ≤ length s
   pub room : base + count ≤ labels
 
 -- the same for a row
@@ -35,13 +36,13 @@ pub record Row (s : List ℕ) (p count w labels base : ℕ) : Type 0 where
   pub near : p < 2 ^ 28
   pub wide : w ≤ 256
   pub fits : count ≤ w
-  pub there : byteLen (p + 9 + 24 * count) ≤ length s
+  pub there : byteLen (entryBit p count) ≤ length s
   pub room : base + w ≤ labels
 
 -- the same for the order
 pub record Ordered (s : List ℕ) (n order : ℕ) : Type 0 where
   pub most : n ≤ 4096
-  pub there : byteLen (32 + 12 * n) ≤ length s
+  pub there : byteLen (orderBit n) ≤ length s
   pub room : order ≡ n
 
 -- the same for all rows

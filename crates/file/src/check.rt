@@ -1,6 +1,5 @@
 // The tests on the fields behind the header, in bit order. Nothing is stored here but which frames the order has had.
 use crate::Opened;
-use crate::Whole;
 use crate::get;
 use crate::get::Step;
 use crate::rooms;
@@ -11,7 +10,8 @@ ghost use Prim.Native.Nat.{_+_, _*_, _^_, _≤_, _<_};
 ghost use mathlib.Core.Path.{_≡_};
 ghost use lib.ListN.{length};
 ghost use Rattle.file.specs.Bits.{fieldAt, byteLen};
-ghost use Rattle.file.specs.Reader.{frameAt, orderFieldTest, orderFrom, entryTest, entriesFrom, rowTest, behind, rowsOf, endTest, bodyTest, framesOf, stopOf, readTest, opened};
+ghost use Rattle.file.specs.Layout.{rankBits};
+ghost use Rattle.file.specs.Reader.{frameAt, orderFieldTest, orderFrom, entryTest, entriesFrom, rowTest, behind, rowBit, rowsFrom, endTest, bodyTest, framesOf, stopOf, readTest, opened};
 ghost use Rattle.file.specs.Steps.{step};
 ghost use Rattle.links.specs.Inner.{Seen};
 
@@ -53,7 +53,7 @@ pub fn order(bytes: &[u8], n: usize) -> Verdict
 // One entry at bit p, field by field: its rank, which is `low` or more, or the refusal.
 pub fn entry_fields(bytes: &[u8], n: usize, k: usize, p: usize, low: usize) -> Step
     requires { ⌜ p < 2 ^ 30 ⌝ }
-    ensures { λ x. ⌜ x ≡ step (entryTest (now (bytes .entry)) n k p low) (fieldAt (now (bytes .entry)) p 12) ⌝ }
+    ensures { λ x. ⌜ x ≡ step (entryTest (now (bytes .entry)) n k p low) (fieldAt (now (bytes .entry)) p rankBits) ⌝ }
 {
     let got = get::field(bytes, p, widths::RANK_BITS, k);
     let Step::On(rank) = got else {
@@ -73,17 +73,17 @@ pub fn entry_fields(bytes: &[u8], n: usize, k: usize, p: usize, low: usize) -> S
 // The same, both fields at once where the bytes are there; what is not legal is found again field by field.
 pub fn entry(bytes: &[u8], n: usize, k: usize, p: usize, low: usize) -> Step
     requires { ⌜ p < 2 ^ 30 ⌝ }
-    ensures { λ x. ⌜ x ≡ step (entryTest (now (bytes .entry)) n k p low) (fieldAt (now (bytes .entry)) p 12) ⌝ }
+    ensures { λ x. ⌜ x ≡ step (entryTest (now (bytes .entry)) n k p low) (fieldAt (now (bytes .entry)) p rankBits) ⌝ }
 {
     let end = p / 8 + 4;
     if end <= bytes.len() {
         let both = get::four(bytes, p);
-        let found = both / widths::JOINS_VALUES;
+        let rank = both / widths::JOINS_VALUES;
         let joins = both % widths::JOINS_VALUES;
-        if low <= found {
-            if found < k {
+        if low <= rank {
+            if rank < k {
                 if joins < n {
-                    return Step::On(found);
+                    return Step::On(rank);
                 }
             }
         }
@@ -131,30 +131,22 @@ pub fn row(bytes: &[u8], n: usize, k: usize, w: usize, v: usize, p: usize) -> St
     Step::On(bit + widths::ENTRY_BITS * count)
 }
 
-// All rows: how many were whole, the bit behind them, and what came next.
-pub fn rows(bytes: &[u8], n: usize, k: usize, w: usize) -> Whole
+// All rows: the bit behind them, or the refusal.
+pub fn rows(bytes: &[u8], n: usize, k: usize, w: usize) -> Step
     requires { ⌜ n ≤ 4096 ⌝ }
-    ensures { λ x. ⌜ x ≡ rowsOf (now (bytes .entry)) n k w ⌝ }
+    ensures { λ x. ⌜ x ≡ step (rowsFrom (now (bytes .entry)) n k w 0 n) (rowBit (now (bytes .entry)) n n) ⌝ }
 {
     let mut v: usize = 0;
     let mut p = widths::HEADER_BITS + widths::FRAME_BITS * n;
     while v < n {
         let got = row(bytes, n, k, w, v, p);
         let Step::On(next) = got else {
-            return Whole {
-                rows: v,
-                bit: p,
-                verdict: get::verdict(got),
-            };
+            return got;
         };
         p = next;
         v += 1;
     }
-    Whole {
-        rows: v,
-        bit: p,
-        verdict: Verdict::Fine,
-    }
+    Step::On(p)
 }
 
 // The end of the layout at bit p: its fill bits, and that no byte follows.
@@ -183,11 +175,9 @@ pub fn body(bytes: &[u8], n: usize, k: usize, w: usize) -> Verdict
         return ordered;
     };
     let found = rows(bytes, n, k, w);
-    let tested = found.verdict;
-    let Verdict::Fine = tested else {
-        return tested;
+    let Step::On(bit) = found else {
+        return get::verdict(found);
     };
-    let bit = found.bit;
     end(bytes, bit)
 }
 

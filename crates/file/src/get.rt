@@ -10,6 +10,7 @@ ghost use lib.ListN.{length};
 ghost use lib.Dec.{ltb};
 ghost use Rattle.refusal.specs.Tests.{refusal};
 ghost use Rattle.file.specs.Bits.{fieldAt, byteLen};
+ghost use Rattle.file.specs.Layout.{entryBits};
 ghost use Rattle.file.specs.Reader.{fieldTest};
 ghost use Rattle.file.specs.Steps.{Near, step, verdictOf};
 
@@ -82,10 +83,10 @@ pub fn field(bytes: &[u8], p: usize, width: usize, bound: usize) -> Step
     Step::On(value)
 }
 
-// The 24 bits at bit p, where four bytes from its own on are there.
+// The bits of an entry at bit p, where four bytes from its own on are there.
 pub fn four(bytes: &[u8], p: usize) -> usize
     requires { ⌜ (p < 2 ^ 30) × (p / 8 + 4 ≤ length (now bytes)) ⌝ }
-    ensures { λ r. ⌜ r ≡ fieldAt (now (bytes .entry)) p 24 ⌝ }
+    ensures { λ r. ⌜ r ≡ fieldAt (now (bytes .entry)) p entryBits ⌝ }
 {
     let at = p / 8;
     let first = bytes[at] as usize;
@@ -100,8 +101,8 @@ pub fn four(bytes: &[u8], p: usize) -> usize
 
 // The same wherever they are there.
 pub fn pair(bytes: &[u8], p: usize) -> usize
-    requires { ⌜ (p < 2 ^ 30) × (byteLen (p + 24) ≤ length (now bytes)) ⌝ }
-    ensures { λ r. ⌜ r ≡ fieldAt (now (bytes .entry)) p 24 ⌝ }
+    requires { ⌜ (p < 2 ^ 30) × (byteLen (p + entryBits) ≤ length (now bytes)) ⌝ }
+    ensures { λ r. ⌜ r ≡ fieldAt (now (bytes .entry)) p entryBits ⌝ }
 {
     let end = p / 8 + 4;
     if end <= bytes.len() {

@@ -28,13 +28,6 @@ pub enum Opened {
     Refused(Refusal),
 }
 
-// How many rows of a file were whole, the bit behind them, and what came next: nothing, or the refusal of the next row.
-pub struct Whole {
-    pub rows: usize,
-    pub bit: usize,
-    pub verdict: Verdict,
-}
-
 // Writes the index file into a stretch of the output room from byte `start` on; bytes outside the stretch stay.
 pub fn write(
     n: usize,
@@ -73,27 +66,27 @@ pub fn header(bytes: &[u8]) -> Opened
     ensures given { λ r. ⌜ r ≡ headerOf (now (bytes .entry)) ⌝ }
     ensures said { λ r. ⌜ told r ≡ told (headerOf (now (bytes .entry))) ⌝ }
 {
-    if bytes.len() < 1 {
+    if bytes.len() < widths::VERSION_BYTES {
         return get::closed(refusal::SHORT, 0);
     }
     let version = get::get(bytes, 0, widths::VERSION_BITS);
     if version != 1 {
         return get::closed(refusal::VERSION, 0);
     }
-    if bytes.len() < 2 {
-        return get::closed(refusal::SHORT, 4);
+    if bytes.len() < widths::FRAMES_BYTES {
+        return get::closed(refusal::SHORT, widths::FRAMES_BIT);
     }
-    if bytes.len() < 4 {
-        return get::closed(refusal::SHORT, 16);
+    if bytes.len() < widths::HEADER_BYTES {
+        return get::closed(refusal::SHORT, widths::STOP_BIT);
     }
-    let n = get::get(bytes, 4, widths::FRAMES_BITS) + 1;
-    let k = get::get(bytes, 16, widths::STOP_BITS);
+    let n = get::get(bytes, widths::FRAMES_BIT, widths::FRAMES_BITS) + 1;
+    let k = get::get(bytes, widths::STOP_BIT, widths::STOP_BITS);
     if n < k {
-        return get::closed(refusal::FIELD, 16);
+        return get::closed(refusal::FIELD, widths::STOP_BIT);
     }
-    let spare = get::get(bytes, 29, widths::SPARE_BITS);
+    let spare = get::get(bytes, widths::SPARE_BIT, widths::SPARE_BITS);
     if spare != 0 {
-        return get::closed(refusal::FIELD, 29);
+        return get::closed(refusal::FIELD, widths::SPARE_BIT);
     }
     Opened::Index(n, k)
 }

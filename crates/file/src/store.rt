@@ -7,6 +7,7 @@ ghost use Prim.Native.Nat.{_+_, _-_, _*_, _^_, _≤_, _<_};
 ghost use mathlib.Core.Path.{_≡_};
 ghost use lib.ListN.{length, set};
 ghost use Rattle.file.specs.Bits.{byteLen};
+ghost use Rattle.file.specs.Layout.{entryBits};
 ghost use Rattle.file.specs.Reader.{frameAt, entryAt, countAt, labelAt};
 ghost use Rattle.file.specs.Stores.{filled, entryFrom, cellAt, nought, Entries, Row, Ordered, Rowed};
 
@@ -26,7 +27,7 @@ pub fn order(bytes: &[u8], n: usize, order: &mut [u32])
 
 // The entry at bit p, stored at place `at`.
 pub fn entry(bytes: &[u8], p: usize, labels: &mut [Entry], at: usize)
-    requires { ⌜ (p < 2 ^ 30) × (byteLen (p + 24) ≤ length (now bytes)) × (at < length (now labels)) ⌝ }
+    requires { ⌜ (p < 2 ^ 30) × (byteLen (p + entryBits) ≤ length (now bytes)) × (at < length (now labels)) ⌝ }
     ensures { λ _. ⌜ now (labels .exit) ≡ set (now (labels .entry)) at (entryAt (now (bytes .entry)) p) ⌝ }
 {
     let both = get::pair(bytes, p);

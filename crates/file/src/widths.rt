@@ -1,4 +1,5 @@
-// How wide the fields of the index file are, in bits: the one place in the code, for the writer and the reader.
+// How wide the fields of the index file are, in bits, and where those of the header stand: the one place in the code, for
+// the writer and the reader.
 
 // The header: its version, n - 1, the stop, spare bits.
 pub const VERSION_BITS: usize = 4;
@@ -18,8 +19,21 @@ pub const RANK_BITS: usize = 12;
 
 pub const JOINS_BITS: usize = 12;
 
-// What stands before the order.
-pub const HEADER_BITS: usize = VERSION_BITS + FRAMES_BITS + STOP_BITS + SPARE_BITS;
+// The first bit of a header field, and of what stands behind the header; the version has bit 0.
+pub const FRAMES_BIT: usize = VERSION_BITS;
+
+pub const STOP_BIT: usize = FRAMES_BIT + FRAMES_BITS;
+
+pub const SPARE_BIT: usize = STOP_BIT + STOP_BITS;
+
+pub const HEADER_BITS: usize = SPARE_BIT + SPARE_BITS;
+
+// The bytes that reach to the end of the version, of n - 1, and of the header.
+pub const VERSION_BYTES: usize = (FRAMES_BIT + 7) / 8;
+
+pub const FRAMES_BYTES: usize = (STOP_BIT + 7) / 8;
+
+pub const HEADER_BYTES: usize = HEADER_BITS / 8;
 
 // What a frame takes: its number in the order, and its count.
 pub const EACH_FRAME_BITS: usize = FRAME_BITS + COUNT_BITS;

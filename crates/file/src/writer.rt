@@ -1,10 +1,10 @@
 // The parts of the writer: the tests that stand before it, the bytes that the file has, and the file put into a stretch
 // that is just as long.
 ghost use mathlib.Core.Path.{_≡_};
-ghost use Prim.Native.Nat.{_+_, _*_, _/_, _≤_};
+ghost use Prim.Native.Nat.{_≤_};
 ghost use lib.ListN.{length};
 ghost use Rattle.basics.specs.Places.{sum};
-ghost use Rattle.file.specs.Layout.{fileOf};
+ghost use Rattle.file.specs.Layout.{fileOf, fileSize};
 ghost use Rattle.file.specs.Writer.{indexSizes, writeTests, outFits, Fit};
 use crate::put;
 use crate::put::Pen;
@@ -67,11 +67,11 @@ pub fn out_fits(room: usize, start: usize, size: usize) -> bool
 // The bytes that the file has: 4 for the header, and 21 bits for each frame and 24 for each entry, rounded up.
 pub fn size(n: usize, counts: &[u32]) -> usize
     requires { ⌜ (n ≤ 4096) × (length (now counts) ≤ 4096) ⌝ }
-    ensures { λ r. ⌜ r ≡ 4 + (21 * n + 24 * sum (now (counts .entry)) + 7) / 8 ⌝ }
+    ensures { λ r. ⌜ r ≡ fileSize n (sum (now (counts .entry))) ⌝ }
 {
     let entries = total(counts);
     let bits = widths::EACH_FRAME_BITS * n + widths::ENTRY_BITS * entries;
-    widths::HEADER_BITS / 8 + (bits + 7) / 8
+    widths::HEADER_BYTES + (bits + 7) / 8
 }
 
 // Puts the whole file into a stretch of just its length.

@@ -1,13 +1,13 @@
 -- Readings that the tests must have, computed on small cases.
 use mathlib.Core.Path.{_≡_, refl}
 use mathlib.Core.List.{[], _∷_}
-use Rattle.basics.specs.Places.{first, some}
+use Rattle.basics.specs.Places.{first, some, stands}
 use Rattle.refusal.specs.Numbers.{SIZE, LENGTH, STARTS, LINKS, ORDER}
 use Rattle.refusal.specs.Sizes.{framesFit, placesFit}
-use Rattle.refusal.specs.Tests.{test, _then_, refusal}
+use Rattle.refusal.specs.Tests.{test, _then_, refusal, ifFine}
 use Rattle.refusal.specs.declared.Verdict.the-variants.{Refused}
 use Rattle.links.specs.Links.{startsRight, degree, holds, faultyLink, faultyList, sizesTest, startsTest, listsTest, checkLinks}
-use Rattle.links.specs.Order.{stands, faultyRank, orderTest, checkOrder, degreeTests, orderedBy, degreeOf, ordered}
+use Rattle.links.specs.Order.{faultyRank, orderTest, checkOrder, degreeTests, degreeOf, ordered}
 
 record Readings : Type 0 where
   -- link 0-0: LINKS at 0
@@ -28,7 +28,7 @@ record Readings : Type 0 where
 
 readings : Readings
 unfolding checkLinks sizesTest framesFit placesFit startsTest startsRight listsTest faultyList faultyLink holds degree
-    checkOrder orderTest faultyRank stands degreeOf orderedBy degreeTests first some test _then_
+    checkOrder orderTest faultyRank stands degreeOf ifFine degreeTests first some test _then_
 readings =
     record {
       self-link = refl;

@@ -1,22 +1,20 @@
 -- The tests on a block of links: that sizes and lengths tested first leave tests 3 and 4, that these passed give what the
 -- theory asks of a block, and that such a block passes.
-use Prim.Native.Nat.{ℕ, zero, suc, _+_, _-_, _≤_, _<_}
+use Prim.Native.Nat.{ℕ, _+_, _-_, _≤_, _<_}
 use mathlib.Core.Path.{_≡_, refl, sym, ap, _∙_}
 use mathlib.Core.Bool.{Bool, true, false, not, _||_, _&&_, and-false, or-true}
 use mathlib.Core.List.{List}
 use native.Mathlib.Omega.{arith}
-use native.Mathlib.Numerals.{add-one}
-use native.Mathlib.Decide.{ℕ-discrete}
 use lib.ListN.{length, getD}
 use lib.Dec.{leb, ltb, eqb}
-use borrow.Author.Tests.{le-leb, lt-leb, lt-ltb, le-ltb, eq-eqb, ne-eqb, leb-false, ltb-false, eqb-true, eqb-false}
+use borrow.Author.Tests.{le-leb, lt-leb, lt-ltb, le-ltb, eq-eqb, ne-eqb, leb-false, ltb-false, eqb-true, eqb-false, not-false, not-true}
 use Rattle.basics.specs.Places.{first, some}
-use Rattle.basics.proofs.Laws.{by-cases, lt-or-ge, both, both-true, either-false, either-right, neither, not-of-true, not-of-false, of-not-true, of-not-false, cond-true, cond-false, first-before, first-none, some-none, some-one, some-found, some-not, some-first, none-first}
+use Rattle.basics.proofs.Laws.{lt-or-ge, both, both-true, either-false, either-right, neither, not-of-true, not-of-false, cond-true, cond-false, never-falls, some-none, some-one, some-found, some-not, some-first, none-first}
 use Rattle.refusal.specs.Numbers.{SIZE, LENGTH, STARTS, LINKS}
 use Rattle.refusal.specs.Sizes.{framesFit, placesFit}
 use Rattle.refusal.specs.Tests.{test, _then_, refusal}
 use Rattle.refusal.specs.declared.Verdict.the-variants.{Fine, Refused}
-use Rattle.refusal.proofs.Laws.{test-fine, test-refused, test-held, after-fine, after-refused, then-fine}
+use Rattle.refusal.proofs.Laws.{test-fine, test-refused, test-held, after-fine, after-refused, then-fine, lowest-fine, lowest-refused, lowest-none, none-lowest}
 use Rattle.refusal.proofs.SizeLaws.{frames-fit, frames-held, places-fit, places-held}
 use Rattle.theory.specs.Links.{Block, Link}
 use Rattle.theory.specs.Plain.{ones}
@@ -89,13 +87,13 @@ pub tests-lists : (n : ℕ) (S L : List ℕ) (v : ℕ) → startsRight n S L ≡
     → (v ≡ n → ⊥) → (startsTest n S L then listsTest n S L) ≡ Refused (refusal LINKS v)
 unfolding startsTest listsTest
 tests-lists n S L v e here other =
-    after-fine _ (test-fine _ _ e) ∙ rw (← here) (test-refused LINKS v (ne-eqb v n other))
+    after-fine _ (test-fine _ _ e) ∙ lowest-refused _ n LINKS here other
 
 pub tests-fine : (n : ℕ) (S L : List ℕ) (v : ℕ) → startsRight n S L ≡ true → v ≡ first (faultyList n S L) 0 n
     → v ≡ n → (startsTest n S L then listsTest n S L) ≡ Fine
 unfolding startsTest listsTest
 tests-fine n S L v e here whole =
-    after-fine _ (test-fine _ _ e) ∙ rw (← here) (test-fine LINKS v (eq-eqb v n whole))
+    after-fine _ (test-fine _ _ e) ∙ lowest-fine _ n LINKS here whole
 
 -- ---- start positions that are kept
 
@@ -109,19 +107,13 @@ starts-kept n S L right fits =
     record {
       fits = fits;
       front = eqb-true _ _ front;
-      rise = λ v h. ltb-false _ _ (some-not (falls S) 0 n v (of-not-true _ rise) (omega arith) (omega arith));
+      rise = λ v h. ltb-false _ _ (some-not (falls S) 0 n v (not-true _ rise) (omega arith) (omega arith));
       last = eqb-true _ _ last;
     }
 
 -- start positions never fall
 pub starts-rise : {n : ℕ} (S : List ℕ) {L : List ℕ} → Starts n S L → (u v : ℕ) → u ≤ v → v ≤ n → getD S u 0 ≤ getD S v 0
-starts-rise S s u zero h k = omega (arith, ap (λ (j : ℕ). getD S j 0) (let e : u ≡ 0 = omega arith in e))
-starts-rise S s u (suc v) h k =
-    by-cases (ℕ-discrete u (suc v))
-    (λ (e : u ≡ suc v). omega (arith, ap (λ (j : ℕ). getD S j 0) e))
-    (λ e.
-    let next : getD S (v + 1) 0 ≡ getD S (suc v) 0 = ap (λ (j : ℕ). getD S j 0) (add-one v) in
-    omega (arith, starts-rise S s u v (omega arith) (omega arith), s .rise v (omega arith)))
+starts-rise {n} S s = never-falls (λ v. getD S v 0) n (s .rise)
 
 -- a list lies within the neighbour places
 pub starts-within : {n : ℕ} (S : List ℕ) {L : List ℕ} → Starts n S L → (v : ℕ) → v ≤ n → getD S v 0 ≤ length L
@@ -132,7 +124,7 @@ list-in S s v h = record {
   frame = omega (arith, s .fits .long);
   rise = s .rise v h;
   within = starts-within S s (v + 1) (omega arith);
-  few = omega (arith, s .fits .frames);
+  low = omega (arith, s .fits .frames);
   places = s .fits .places;
 }
 
@@ -225,17 +217,16 @@ link-sound n S L v i fine =
       inside = leb-false n w a;
       apart = eqb-false w v b;
       above = λ h. leb-false w (getD L (i - 1) 0) (sym (ap (λ (t : Bool). t && leb w (getD L (i - 1) 0)) (lt-ltb _ _ h)) ∙ c-not);
-      mirror = of-not-false _ d;
+      mirror = not-false _ d;
     }
 
--- passed tests 3 and 4 leave no faulty link
+-- test 4 passed leaves no faulty link
 pub lists-sound : (n : ℕ) (S L : List ℕ) → listsTest n S L ≡ Fine → (v i : ℕ) → v < n → getD S v 0 ≤ i
     → i < getD S (v + 1) 0 → Sound n S L v i
 unfolding listsTest faultyList degree
 lists-sound n S L fine v i h low high =
-    let whole : first (faultyList n S L) 0 n ≡ n = eqb-true _ _ (test-held _ _ _ fine) in
-    let list : faultyList n S L v ≡ false = first-before (faultyList n S L) 0 n v (omega arith) (omega arith) in
-    link-sound n S L v i (some-not (faultyLink n S L v) (getD S v 0) (degree S v) i list low (omega arith))
+    link-sound n S L v i
+    (some-not (faultyLink n S L v) (getD S v 0) (degree S v) i (lowest-none (faultyList n S L) n LINKS fine v h) low (omega arith))
 
 -- the mirror as the theory has it
 pub holds-link : (S L : List ℕ) (w v : ℕ) → holds S L w v ≡ true → Link S L ones w v 1
@@ -305,12 +296,9 @@ module _ {n : ℕ} (S L : List ℕ) (b : Block n 1 S L ones) where
 
   -- a block whose sizes fit passes check links
   pub links-whole : n ≤ 4096 → length L ≤ 65536 → checkLinks n S L ≡ Fine
-  unfolding faultyList degree
+  unfolding startsTest listsTest faultyList degree
   links-whole most room =
-      let none : first (faultyList n S L) 0 n ≡ 0 + n =
-      first-none (faultyList n S L) 0 n
-      (λ v low high.
-      some-none (faultyLink n S L v) (getD S v 0) (degree S v)
-      (λ i from upto. block-link v i (omega arith) from (omega arith))) in
       links-alone n S L record { one = b .some; frames = most; places = room; long = b .long }
-      ∙ tests-fine n S L n block-starts (omega arith) refl
+      ∙ after-fine _ (test-fine _ _ block-starts)
+      ∙ none-lowest (faultyList n S L) n LINKS
+      (λ v h. some-none (faultyLink n S L v) (getD S v 0) (degree S v) (λ i from upto. block-link v i h from (omega arith)))

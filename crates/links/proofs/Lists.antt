@@ -108,7 +108,7 @@ setting-end s h long = record { long = s .long; from = λ u l. omega (arith, s .
 
 -- a cursor moved to a place that is not before its list
 pub cursors-on : {S C : List ℕ} → Cursors S C → (w at : ℕ) → w < 4096 → getD S w 0 ≤ at → Cursors S (set C w at)
-cursors-on {S} {C} c w at few low = record {
+cursors-on {S} {C} c w at frame low = record {
   long = length-set C w at ∙ c .long;
   from = λ u l.
       cases (set-cases C w u at 0 (omega (arith, c .long)))

@@ -7,18 +7,18 @@ use mathlib.Core.List.{List}
 use native.Mathlib.Omega.{arith}
 use native.Mathlib.Nat.{sub-zero}
 use lib.ListN.{length, getD, set, replicate, length-set, length-replicate, getD-replicate}
-use lib.Dec.{leb, eqb}
-use borrow.Author.Tests.{le-leb, lt-leb, eq-eqb, ne-eqb, leb-false, eqb-true, eqb-false}
-use Rattle.basics.specs.Places.{first, some}
-use Rattle.basics.proofs.Laws.{either-false, either-left, either-right, neither, first-before, first-none, first-here, first-step, first-over, some-not, some-none, stands-at, stands-none, stands-other, at-set}
+use lib.Dec.{leb}
+use borrow.Author.Tests.{le-leb, lt-leb, eq-eqb, ne-eqb, leb-false}
+use Rattle.basics.specs.Places.{first, stands}
+use Rattle.basics.proofs.Laws.{not-both, either-false, either-left, either-right, neither, first-here, first-step, first-over, stands-at, stands-not, stands-none, stands-other, at-set}
 use Rattle.refusal.specs.Numbers.{SIZE, LENGTH, ORDER}
 use Rattle.refusal.specs.Tests.{refusal}
 use Rattle.refusal.specs.declared.Verdict.the-variants.{Fine, Refused}
-use Rattle.refusal.proofs.Laws.{test-fine, test-refused, test-held, after-fine, after-refused}
+use Rattle.refusal.proofs.Laws.{test-fine, test-refused, after-fine, after-refused, lowest-fine, lowest-refused, lowest-none, none-lowest}
 use Rattle.theory.specs.Links.{Order, hubOf}
 use Rattle.refusal.specs.Sizes.{framesFit}
 use Rattle.refusal.proofs.SizeLaws.{frames-fit}
-use Rattle.links.specs.Order.{stands, faultyRank, orderTest, checkOrder}
+use Rattle.links.specs.Order.{faultyRank, orderTest, checkOrder}
 use Rattle.links.specs.Inner.{Seen}
 
 -- ---- sizes and lengths
@@ -58,8 +58,8 @@ module _ (n : ℕ) (f : ℕ → ℕ) where
   unfolding faultyRank
   sound-inside r e = leb-false n (f r) (either-false _ _ e .0)
 
-  pub sound-new : (r : ℕ) → faultyRank n f r ≡ false → some (λ j. eqb (f j) (f r)) 0 r ≡ false
-  unfolding faultyRank stands
+  pub sound-new : (r : ℕ) → faultyRank n f r ≡ false → stands f r (f r) ≡ false
+  unfolding faultyRank
   sound-new r e = either-false (leb n (f r)) _ e .1
 
 -- no frame seen yet
@@ -80,7 +80,7 @@ module _ {f : ℕ → ℕ} {seen : List Bool} {r v : ℕ} (s : Seen f seen r) (e
     long = length-set seen v true ∙ s .long;
     has = λ u low.
         at-set seen v u true false (stands f (r + 1) u) (omega (arith, s .long))
-        (λ q. sym (ap (stands f (r + 1)) (q ∙ e) ∙ stands-at f (r + 1) r (omega arith)))
+        (λ q. sym (stands-at f (r + 1) r (omega arith) (sym (q ∙ e))))
         (λ q. s .has u low ∙ sym (stands-other f r u (λ i. q (i ∙ sym e))));
   }
 
@@ -94,9 +94,7 @@ module _ {n : ℕ} {O : List ℕ} {seen : List Bool} {r : ℕ} (s : Passed n O s
   -- a faulty rank is the lowest
   pub passed-stop : r < n → faultyRank n (hubOf O) r ≡ true → orderTest n O ≡ Refused (refusal ORDER r)
   unfolding orderTest
-  passed-stop h bad =
-      let here : first (faultyRank n (hubOf O)) 0 n ≡ r = sym (s .rest) ∙ first-here _ r n h bad in
-      rw here (test-refused ORDER r (ne-eqb r n (λ e. omega arith)))
+  passed-stop h bad = lowest-refused _ n ORDER (sym (first-here _ r n h bad) ∙ s .rest) (λ e. omega arith)
 
   -- a frame seen before makes a faulty rank
   pub passed-twice : n ≤ 4096 → r < n → hubOf O r < n → getD seen (hubOf O r) false ≡ true
@@ -119,9 +117,7 @@ module _ {n : ℕ} {O : List ℕ} {seen : List Bool} {r : ℕ} (s : Passed n O s
   -- all ranks passed
   pub passed-end : n ≤ r → orderTest n O ≡ Fine
   unfolding orderTest
-  passed-end h =
-      let here : first (faultyRank n (hubOf O)) 0 n ≡ r = sym (s .rest) ∙ first-over _ r n h in
-      rw here (test-fine ORDER r (eq-eqb r n (omega (arith, s .upto))))
+  passed-end h = lowest-fine _ n ORDER (sym (first-over _ r n h) ∙ s .rest) (omega (arith, s .upto))
 
 -- no rank passed yet
 pub passed-first : (n : ℕ) (O : List ℕ) → Passed n O (replicate 4096 false) 0
@@ -133,28 +129,20 @@ pub order-sound : (n : ℕ) (O : List ℕ) → orderTest n O ≡ Fine → length
 unfolding orderTest
 order-sound n O fine long =
     let f : ℕ → ℕ = hubOf O in
-    let whole : first (faultyRank n f) 0 n ≡ n = eqb-true _ _ (test-held _ _ _ fine) in
-    let sound : (r : ℕ) → r < n → faultyRank n f r ≡ false = λ r h.
-    first-before (faultyRank n f) 0 n r (omega arith) (omega arith) in
+    let sound : (r : ℕ) → r < n → faultyRank n f r ≡ false = lowest-none (faultyRank n f) n ORDER fine in
     record {
       long = long;
       inside = λ r h. sound-inside n f r (sound r h);
-      once = λ r s h k e.
-          eqb-false (f r) (f s) (some-not (λ j. eqb (f j) (f s)) 0 s r (sound-new n f s (sound s k)) (omega arith) (omega arith)) e;
+      once = λ r s h k e. not-both (stands-at f s r h e) (sound-new n f s (sound s k));
     }
 
 -- an order passes its test
 pub order-passes : (n : ℕ) (O : List ℕ) → Order n O → orderTest n O ≡ Fine
-unfolding orderTest stands
+unfolding orderTest
 order-passes n O o =
     let f : ℕ → ℕ = hubOf O in
-    let end : first (faultyRank n f) 0 n ≡ 0 + n =
-    first-none (faultyRank n f) 0 n
-    (λ r low h.
-    rank-sound n f r (o .inside r (omega arith))
-    (some-none (λ j. eqb (f j) (f r)) 0 r (λ j from l. ne-eqb (f j) (f r) (o .once j r (omega arith) (omega arith))))) in
-    let whole : first (faultyRank n f) 0 n ≡ n = omega arith in
-    test-fine ORDER _ (eq-eqb _ _ whole)
+    none-lowest (faultyRank n f) n ORDER
+    (λ r h. rank-sound n f r (o .inside r h) (stands-not f r (f r) (λ j l. o .once j r l h)))
 
 -- and, where n fits, check order
 pub order-whole : (n : ℕ) (O : List ℕ) → Order n O → 1 ≤ n → n ≤ 4096 → checkOrder n O ≡ Fine

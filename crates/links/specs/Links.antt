@@ -4,10 +4,10 @@ use mathlib.Core.Bool.{Bool, not, _&&_, _||_}
 use mathlib.Core.List.{List}
 use lib.ListN.{length, getD}
 use lib.Dec.{leb, ltb, eqb}
-use Rattle.basics.specs.Places.{first, some}
+use Rattle.basics.specs.Places.{some}
 use Rattle.refusal.specs.Numbers.{SIZE, LENGTH, STARTS, LINKS}
 use Rattle.refusal.specs.Sizes.{framesFit, placesFit}
-use Rattle.refusal.specs.Tests.{test, _then_}
+use Rattle.refusal.specs.Tests.{test, _then_, lowestTest}
 use Rattle.refusal.specs.declared.Verdict.{Verdict}
 
 -- the start position behind frame v falls
@@ -55,9 +55,7 @@ startsTest n S L = test (startsRight n S L) STARTS 0
 
 -- 4: a list breaks its rule; the lowest such frame
 unfoldable pub listsTest : ℕ → List ℕ → List ℕ → Verdict
-listsTest n S L =
-    let v : ℕ = first (faultyList n S L) 0 n in
-    test (eqb v n) LINKS v
+listsTest n S L = lowestTest (faultyList n S L) n LINKS
 
 -- check links: 1 to 4
 unfoldable pub checkLinks : ℕ → List ℕ → List ℕ → Verdict

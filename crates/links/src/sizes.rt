@@ -6,11 +6,11 @@ ghost use Rattle.refusal.specs.Sizes.{framesFit, placesFit};
 ghost use Rattle.links.specs.Links.{sizesTest};
 
 // Whether n and the number of neighbour places are in range.
-pub fn sizes_fit(n: usize, places: usize) -> bool
-    ensures { λ r. ⌜ r ≡ framesFit n && placesFit places ⌝ }
+pub fn block_fits(n: usize, count: usize) -> bool
+    ensures { λ r. ⌜ r ≡ framesFit n && placesFit count ⌝ }
 {
     if refusal::sizes::frames_fit(n) {
-        return refusal::sizes::places_fit(places);
+        return refusal::sizes::places_fit(count);
     }
     false
 }
@@ -19,7 +19,7 @@ pub fn sizes_fit(n: usize, places: usize) -> bool
 pub fn tests(n: usize, starts: &[u32], places: &[u32]) -> Verdict
     ensures { λ r. ⌜ r ≡ sizesTest n (now (starts .entry)) (now (places .entry)) ⌝ }
 {
-    if sizes_fit(n, places.len()) {
+    if block_fits(n, places.len()) {
         if starts.len() == n + 1 {
             return Verdict::Fine;
         }

@@ -16,7 +16,7 @@ use Rattle.rows.specs.Rooms.{soundRow, checkRows}
 use Rattle.rows.specs.Spread.{spreadBy, spreadOf}
 use Rattle.rows.proofs.RoomLaws.{rows-sound}
 use Rattle.file.specs.declared.Opened.{Opened}
-use Rattle.file.specs.Reader.{framesOf, stopOf, headerTest, headerOf, readTest, readOf, filledIn, outcome, Outcome}
+use Rattle.file.specs.Reader.{framesOf, stopOf, headerTest, headerOf, readTest, readOf, filledIn, outcome, Outcome, told}
 use Rattle.file.proofs.Heading.{index-is, refused-is}
 use Rattle.listing.specs.Lines.{WIDTH, MOST, Cut, Shown, refusedText}
 use Rattle.listing.specs.Listing.{indexText, fileText, readText, listingTest, listingOf}
@@ -55,6 +55,12 @@ filled-text : (v : Verdict) (s order labels counts : List ℕ)
 unfolding filledIn openedText readText fileText
 filled-text Verdict.Fine s order labels counts = refl
 filled-text (Verdict.Refused r) s order labels counts = refl
+
+-- a refusal's number as text
+pub refused-text : {a : Opened} {r : Refusal} {number : ℕ} → number ≡ told a .number → a ≡ Opened.Refused r
+    → refusedText number ≡ refusedText (r .number)
+unfolding told
+refused-text e f = ap refusedText (e ∙ ap (λ (a : Opened). told a .number) f)
 
 -- the text of an answer that was found
 pub read-found : (s order labels counts : List ℕ) {order' labels' counts' : List ℕ} {a found : Opened}

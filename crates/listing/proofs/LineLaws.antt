@@ -5,7 +5,7 @@ use native.Mathlib.Omega.{arith}
 use mathlib.Core.Path.{_≡_, refl}
 use mathlib.Core.List.{List}
 use lib.ListN.{length, getD}
-use Rattle.rows.specs.Entry.{rankOf}
+use Rattle.rows.specs.Entry.{RanksIn}
 use Rattle.rows.specs.Rooms.{Rooms, partOf, rowAt}
 use Rattle.rows.proofs.Laws.{Sound, row-sound}
 use Rattle.rows.proofs.RoomLaws.{part-is-row, length-row}
@@ -47,8 +47,7 @@ module _ {order labels counts : List ℕ} (s : Shown order labels counts) (v : �
   shown-few = omega (arith, length-row rooms v h (sound .0), sound .0)
 
   -- each rank has its frame in the order
-  pub shown-ranks : (i : ℕ) → i < length (rowAt WIDTH labels counts v)
-      → rankOf (getD (rowAt WIDTH labels counts v) i 0) < length order
+  pub shown-ranks : RanksIn (rowAt WIDTH labels counts v) order
   shown-ranks i k =
       let inside : i < getD counts v 0 = omega (arith, length-row rooms v h (sound .0)) in
       omega (arith, sound .1 .rank i inside, s .cut .ordered)

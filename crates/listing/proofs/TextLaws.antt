@@ -6,23 +6,28 @@ use native.Mathlib.Omega.{arith}
 use mathlib.Core.Path.{_≡_, refl, sym, ap, subst, _∙_}
 use mathlib.Core.List.{List, [], _∷_, _++_, append-assoc, append-nil}
 use lib.ListN.{length, getD, take, set, length-append, length-set}
-use lib.Seq.{take-suc, take-suc-set}
+use lib.Seq.{take-suc, take-suc-set, drop-set-lt}
 use lib.Dec.{ltb}
 use borrow.Author.Tests.{lt-ltb, le-ltb}
-use Rattle.basics.proofs.Laws.{first-is, lt-or-ge}
+use Rattle.basics.proofs.Laws.{first-is, lt-or-ge, drop-later}
 use Rattle.io.specs.Digits.{digits, Fewest}
-use Rattle.listing.specs.Text.{places, decimal, Put}
+use Rattle.listing.specs.Text.{digitCount, decimal, Put}
 
 -- ---- text in a room
 
 -- nothing put
 pub put-none : (room : List ℕ) (at : ℕ) → Put room at [] room at
-put-none room at = record { long = refl; ends = sym (add-zero at); holds = sym (append-nil (take at room)) }
+put-none room at = record { long = refl; ends = sym (add-zero at); holds = sym (append-nil (take at room)); rest = refl }
 
 -- one byte put
 pub put-byte : (room : List ℕ) (at b : ℕ) → at < length room → Put room at (b ∷ []) (set room at b) (at + 1)
 put-byte room at b h =
-    record { long = length-set room at b; ends = refl; holds = rw add-one (take-suc-set room at b h) }
+    record {
+      long = length-set room at b;
+      ends = refl;
+      holds = rw add-one (take-suc-set room at b h);
+      rest = drop-set-lt (at + 1) room at b (omega arith);
+    }
 
 -- text, and more text behind it
 pub put-more : {room mid last s t : List ℕ} {at next end : ℕ} → Put room at s mid next → Put mid next t last end
@@ -32,6 +37,7 @@ put-more {room} {mid} {last} {s} {t} {at} {next} {end} p q =
       long = q .long ∙ p .long;
       ends = q .ends ∙ (ap (λ (k : ℕ). k + length t) (p .ends) ∙ omega (arith, length-append s t));
       holds = q .holds ∙ (ap (λ (l : List ℕ). l ++ t) (p .holds) ∙ append-assoc (take at room) s t);
+      rest = q .rest ∙ drop-later mid room next end (omega (arith, q .ends)) (p .rest);
     }
 
 -- the same text
@@ -49,28 +55,26 @@ put-next {room} {mid} {at} text i inside fits p =
 
 -- ---- a number
 
--- a number of 64 bits has at most twenty digits
-pub few-places : (x k : ℕ) → x < 18446744073709551616 → Fewest 10 1 x k → k ≤ 20
-few-places x k small few =
-    lt-or-ge 20 k
-    (λ more.
+-- fewer digits than the fewest do not hold a number
+fewer : (x k j : ℕ) → Fewest 10 1 x k → 1 ≤ j → j < k → 10 ^ j ≤ x
+fewer x k j few some below =
     let high : 10 ^ (k - 1) ≤ x = few .2 (omega arith) in
-    let less : 10 ^ 20 ≤ 10 ^ (k - 1) = pow-le-pow-right {n = 10} (omega arith) {i = 20} {j = k - 1} (omega arith) in
-    absurd (omega arith))
-    (λ most. most)
+    let less : 10 ^ j ≤ 10 ^ (k - 1) = pow-le-pow-right (omega arith) (omega arith) in
+    omega arith
+
+-- a number of 64 bits has at most twenty digits
+pub few-digits : (x k : ℕ) → x < 18446744073709551616 → Fewest 10 1 x k → k ≤ 20
+few-digits x k small few =
+    lt-or-ge 20 k (λ more. let high = fewer x k 20 few (omega arith) more in absurd (omega arith)) (λ most. most)
 
 -- the fewest digits that hold a number are as many as it has
-pub places-is : (x k : ℕ) → k ≤ 20 → Fewest 10 1 x k → places x ≡ k
-unfolding places
-places-is x k most few =
+pub digit-count-is : (x k : ℕ) → k ≤ 20 → Fewest 10 1 x k → digitCount x ≡ k
+unfolding digitCount
+digit-count-is x k most few =
     first-is (λ j. ltb x (10 ^ j)) 1 20 k (few .0) (omega arith) (lt-ltb x (10 ^ k) (few .1))
-    (λ j low below.
-    le-ltb x (10 ^ j)
-    (let high : 10 ^ (k - 1) ≤ x = few .2 (omega arith) in
-    let less : 10 ^ j ≤ 10 ^ (k - 1) = pow-le-pow-right (omega arith) (omega arith) in
-    omega arith))
+    (λ j low below. le-ltb x (10 ^ j) (fewer x k j few low below))
 
 -- those digits are the number in decimal
 pub decimal-is : (x k : ℕ) → k ≤ 20 → Fewest 10 1 x k → digits 10 k x ≡ decimal x
 unfolding decimal
-decimal-is x k most few = ap (λ (j : ℕ). digits 10 j x) (sym (places-is x k most few))
+decimal-is x k most few = ap (λ (j : ℕ). digits 10 j x) (sym (digit-count-is x k most few))

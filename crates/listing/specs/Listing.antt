@@ -2,7 +2,7 @@
 -- byte string.
 use Prim.Native.Nat.{ℕ, _*_}
 use mathlib.Core.List.{List, _++_}
-use lib.ListN.{length}
+use lib.ListN.{length, drop}
 use lib.Dec.{leb}
 use Rattle.basics.specs.Places.{sum}
 use Rattle.refusal.specs.Numbers.{SIZE, ROW}
@@ -45,3 +45,7 @@ listingTest s =
 -- the whole text
 unfoldable pub listingOf : List ℕ → List ℕ
 listingOf s = readText (listingTest s) s
+
+-- the text room with the text at its front; behind it the room stays as it was
+unfoldable pub listedIn : List ℕ → List ℕ → List ℕ
+listedIn s room = listingOf s ++ drop (length (listingOf s)) room

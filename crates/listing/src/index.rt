@@ -46,11 +46,11 @@ pub fn open(
     if FRAMES < n {
         return lines::refused(out, SIZE);
     }
-    let places = n * WIDTH;
+    let label_places = n * WIDTH;
     read(
         bytes,
         &mut order[..n],
-        &mut labels[..places],
+        &mut labels[..label_places],
         &mut counts[..n],
         out,
     )

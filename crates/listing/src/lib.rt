@@ -5,9 +5,9 @@
 // fails ends the listing.
 ghost use mathlib.Core.Path.{_≡_};
 ghost use Prim.Native.Nat.{_*_};
-ghost use lib.ListN.{length, take};
+ghost use lib.ListN.{length};
 ghost use Rattle.io.specs.Counts.{Counts};
-ghost use Rattle.listing.specs.Listing.{listingOf};
+ghost use Rattle.listing.specs.Listing.{listingOf, listedIn};
 
 mod index;
 mod lines;
@@ -22,12 +22,13 @@ pub const WIDTH: usize = 32;
 pub const TAKEN: usize = 25253;
 
 // Bytes of the longest text, with twenty for each number: the first line and 256 lines of 1,365.
-pub const ROOM: usize = 349551;
+pub const LONGEST: usize = 349551;
 
 // Puts the listing of a file's bytes, or `refused` with the number, at the front of `out`, and gives back its length.
-pub fn listing(bytes: &[u8], out: &mut [u8; ROOM]) -> usize
+pub fn listing(bytes: &[u8], out: &mut [u8; LONGEST]) -> usize
     ensures inside { λ r. ⌜ Counts r (now (out .exit)) ⌝ }
-    ensures text { λ r. ⌜ take r (now (out .exit)) ≡ listingOf (now (bytes .entry)) ⌝ }
+    ensures size { λ r. ⌜ r ≡ length (listingOf (now (bytes .entry))) ⌝ }
+    ensures room { λ r. ⌜ now (out .exit) ≡ listedIn (now (bytes .entry)) (now (out .entry)) ⌝ }
 {
     let mut order = [0u32; FRAMES];
     let mut labels = [0u32; FRAMES * WIDTH];
@@ -39,7 +40,7 @@ pub fn listing(bytes: &[u8], out: &mut [u8; ROOM]) -> usize
 pub fn list(input: i32, output: i32) {
     let mut bytes = [0u8; TAKEN];
     let taken = io::read_full(input, &mut bytes);
-    let mut out = [0u8; ROOM];
+    let mut out = [0u8; LONGEST];
     let length = listing(&bytes[..taken], &mut out);
     io::write_all(output, &out[..length]);
 }

@@ -1,9 +1,9 @@
 // The lines of the listing. A number takes at most twenty bytes, so an entry at most 42, and a line of 32 entries at
 // most 1,365.
-ghost use Prim.Native.Nat.{ℕ, _+_, _*_, _<_, _≤_};
+ghost use Prim.Native.Nat.{_+_, _*_, _<_, _≤_};
 ghost use mathlib.Core.List.{_++_};
-ghost use lib.ListN.{length, getD};
-ghost use Rattle.rows.specs.Entry.{rankOf};
+ghost use lib.ListN.{length};
+ghost use Rattle.rows.specs.Entry.{rankOf, RanksIn};
 ghost use Rattle.listing.specs.Text.{Put, decimal};
 ghost use Rattle.listing.specs.Lines.{WIDTH as width, Shown, entryText, entriesText, lineText, linesText, headText, refusedText};
 use crate::WIDTH;
@@ -33,7 +33,7 @@ pub fn entry(out: &mut [u8], at: usize, order: &[u32], e: Entry) -> usize
 pub fn entries(out: &mut [u8], at: usize, order: &[u32], row: &[Entry]) -> usize
     requires { ⌜
         (at + 42 * length (now row) ≤ length (now out))
-        × ((i : ℕ) → i < length (now row) → rankOf (getD (now row) i 0) < length (now order))
+        × RanksIn (now row) (now order)
         ⌝ }
     ensures put { λ r. ⌜
         Put (now (out .entry)) at (entriesText (now (order .entry)) (now (row .entry))) (now (out .exit)) r
@@ -54,7 +54,7 @@ pub fn entries(out: &mut [u8], at: usize, order: &[u32], row: &[Entry]) -> usize
 pub fn line(out: &mut [u8], at: usize, order: &[u32], v: usize, row: &[Entry]) -> usize
     requires { ⌜
         (at + 42 * length (now row) + 21 ≤ length (now out))
-        × ((i : ℕ) → i < length (now row) → rankOf (getD (now row) i 0) < length (now order))
+        × RanksIn (now row) (now order)
         ⌝ }
     ensures put { λ r. ⌜
         Put (now (out .entry)) at (lineText (now (order .entry)) v (now (row .entry))) (now (out .exit)) r

@@ -1,10 +1,15 @@
 -- The laws of tests in a row: what a passed test shows, what a failed one gives, and that a verdict is told by the paper's
 -- number and place.
-use Prim.Native.Nat.{ℕ, _<_}
+use Prim.Native.Nat.{ℕ, zero, suc, _+_, _-_, _≤_, _<_}
 use mathlib.Core.Path.{_≡_, refl, sym, ap, _∙_}
 use mathlib.Core.Bool.{Bool, true, false}
+use native.Mathlib.Numerals.{add-one}
+use native.Mathlib.Decide.{ℕ-discrete}
 use native.Mathlib.Omega.{arith}
-use Rattle.refusal.specs.Tests.{test, _then_, refusal, numberOf, placeOf}
+use borrow.Author.Tests.{eq-eqb, ne-eqb}
+use Rattle.basics.specs.Places.{first}
+use Rattle.basics.proofs.Laws.{by-cases, less-one, end-none, none-end}
+use Rattle.refusal.specs.Tests.{test, _then_, refusal, testsFrom, lowestTest, numberOf, placeOf}
 use Rattle.refusal.specs.declared.Refusal.{Refusal}
 use Rattle.refusal.specs.declared.Verdict.{Verdict}
 use Rattle.refusal.specs.declared.Verdict.the-variants.{Fine, Refused}
@@ -56,6 +61,60 @@ unfolding _then_
 then-assoc Fine b d = refl
 then-assoc (Refused r) b d = refl
 
+-- ---- tests of one place after another
+
+-- up to an end, as a loop goes
+module _ (t : ℕ → Verdict) (v end : ℕ) where
+  pub tests-stop : {r : Refusal} → v < end → t v ≡ Refused r → testsFrom t v (end - v) ≡ Refused r
+  unfolding testsFrom
+  tests-stop h e = ap (testsFrom t v) (less-one h) ∙ after-refused _ e
+
+  pub tests-on : v < end → t v ≡ Fine → testsFrom t (v + 1) (end - (v + 1)) ≡ testsFrom t v (end - v)
+  unfolding testsFrom
+  tests-on h e =
+      ap (λ (u : ℕ). testsFrom t u (end - (v + 1))) (add-one v) ∙ sym (ap (testsFrom t v) (less-one h) ∙ after-fine _ e)
+
+  pub tests-end : end ≤ v → testsFrom t v (end - v) ≡ Fine
+  unfolding testsFrom
+  tests-end h = let none : end - v ≡ 0 = omega arith in ap (testsFrom t v) none
+
+-- fine exactly if each is
+fine-from : (t : ℕ → Verdict) (v left : ℕ) → ((u : ℕ) → v ≤ u → u < v + left → t u ≡ Fine) → testsFrom t v left ≡ Fine
+unfolding testsFrom
+fine-from t v zero each = refl
+fine-from t v (suc left) each =
+    after-fine _ (each v (omega arith) (omega arith)) ∙ fine-from t (suc v) left (λ u h k. each u (omega arith) (omega arith))
+
+each-from : (t : ℕ → Verdict) (v left : ℕ) → testsFrom t v left ≡ Fine → (u : ℕ) → v ≤ u → u < v + left → t u ≡ Fine
+unfolding testsFrom
+each-from t v zero e u h k = absurd (omega arith)
+each-from t v (suc left) e u h k =
+    let (here, rest) = then-fine _ _ e in
+    by-cases (ℕ-discrete v u)
+    (λ (q : v ≡ u). ap t (sym q) ∙ here)
+    (λ q. each-from t (suc v) left rest u (omega arith) (omega arith))
+
+pub tests-fine : (t : ℕ → Verdict) (n : ℕ) → ((u : ℕ) → u < n → t u ≡ Fine) → testsFrom t 0 n ≡ Fine
+tests-fine t n each = fine-from t 0 n (λ u _ h. each u (omega arith))
+
+pub tests-each : (t : ℕ → Verdict) (n : ℕ) → testsFrom t 0 n ≡ Fine → (u : ℕ) → u < n → t u ≡ Fine
+tests-each t n e u h = each-from t 0 n e u (omega arith) (omega arith)
+
+-- the lowest of n that is marked: n where none is, else it is refused
+module _ (marked : ℕ → Bool) (n number : ℕ) {v : ℕ} (e : v ≡ first marked 0 n) where
+  pub lowest-fine : v ≡ n → lowestTest marked n number ≡ Fine
+  lowest-fine h = test-fine number _ (eq-eqb _ n (sym e ∙ h))
+
+  pub lowest-refused : (v ≡ n → ⊥) → lowestTest marked n number ≡ Refused (refusal number v)
+  lowest-refused h = test-refused number _ (ne-eqb _ n (λ q. h (e ∙ q))) ∙ ap (λ (u : ℕ). Refused (refusal number u)) (sym e)
+
+-- fine, exactly if none is marked
+pub lowest-none : (marked : ℕ → Bool) (n number : ℕ) → lowestTest marked n number ≡ Fine → (v : ℕ) → v < n → marked v ≡ false
+lowest-none marked n number e = end-none marked n (test-held _ number _ e)
+
+pub none-lowest : (marked : ℕ → Bool) (n number : ℕ) → ((v : ℕ) → v < n → marked v ≡ false) → lowestTest marked n number ≡ Fine
+none-lowest marked n number none = test-fine number _ (none-end marked n none)
+
 -- by cases on a verdict, with the equation
 pub vcase {ℓ} : {C : Type ℓ} (v : Verdict) → (v ≡ Fine → C) → ((r : Refusal) → v ≡ Refused r → C) → C
 vcase Fine f g = f refl
@@ -86,3 +145,8 @@ pub then-numbered : (v next : Verdict) → Numbered v → Numbered next → Numb
 unfolding _then_
 then-numbered Fine next p q r e = q r e
 then-numbered (Refused s) next p q r e = p r e
+
+pub tests-numbered : (t : ℕ → Verdict) → ((u : ℕ) → Numbered (t u)) → (v left : ℕ) → Numbered (testsFrom t v left)
+unfolding testsFrom
+tests-numbered t each v zero = fine-numbered
+tests-numbered t each v (suc left) = then-numbered _ _ (each v) (tests-numbered t each (suc v) left)

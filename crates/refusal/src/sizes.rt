@@ -1,4 +1,4 @@
-// The ranges that test 1 holds sizes to: they stand here and in specs/Sizes.antt, and nowhere else.
+// The ranges that test 1 holds sizes to. Test 1 is made here alone, by specs/Sizes.antt; inner promises keep plain bounds.
 ghost use mathlib.Core.Path.{_≡_};
 ghost use Rattle.refusal.specs.Sizes.{within, framesFit, widthFits, placesFit, sizesFit};
 

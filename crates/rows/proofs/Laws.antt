@@ -1,17 +1,19 @@
 -- The laws of entries, of rows in a label room, and of sound rows.
-use Prim.Native.Nat.{ℕ, zero, suc, _+_, _-_, _*_, _≤_, _<_}
-use mathlib.Core.Path.{_≡_, refl, ap, _∙_}
+use Prim.Native.Nat.{ℕ, suc, _+_, _-_, _*_, _/_, _%_, _≤_, _<_}
+use mathlib.Core.Path.{_≡_, refl, sym, ap, ap₂, _∙_}
 use mathlib.Core.Bool.{true, false, not, _&&_, _||_}
-use mathlib.Core.List.{List, [], _∷_, _++_}
+use mathlib.Core.List.{List, [], _∷_, _++_, map-append}
 use native.Mathlib.Nat.{suc-mul, mul-le-mul-right, add-sub-cancel, add-sub-cancel-left}
 use native.Mathlib.Omega.{arith}
-use borrow.Author.Tests.{ltb-true, leb-true, leb-false, lt-ltb, le-leb, lt-leb, le-ltb}
-use lib.ListN.{length, getD, take, drop, length-drop}
+use borrow.Author.Tests.{ltb-true, leb-true, leb-false, lt-ltb, le-leb, lt-leb, le-ltb, not-true}
+use lib.ListN.{length, getD, take, drop, length-drop, length-map, List·getD-map}
 use lib.Seq.{getD-take, getD-drop, length-take-le}
+use lib.Arith.{digits-div, digits-mod}
 use lib.Dec.{leb, ltb}
-use Rattle.basics.proofs.Laws.{bcase, lt-or-ge, both-true, both, either-false, either-left, either-right, neither, of-not-true, not-of-false, some-not, some-none}
-use Rattle.theory.specs.Rows.{Row}
-use Rattle.basics.specs.Places.{some}
+use Rattle.basics.proofs.Laws.{bcase, lt-or-ge, both-true, both, either-false, either-left, either-right, neither, not-of-false, some-not, some-none, getD-table}
+use Rattle.theory.specs.Rows.{Row, In}
+use Rattle.theory.proofs.Rule.{rankAt, joinsAt, in-place}
+use Rattle.basics.specs.Places.{some, table}
 use Rattle.rows.specs.Entry.{rankOf, joinsOf, entryOf, decode, encode}
 use Rattle.rows.specs.Rooms.{part, inRoom, rowAt, faultyEntry, soundRow}
 
@@ -39,55 +41,64 @@ joins-small e = omega arith
 
 -- ---- lists of entries
 
--- every rank and every number of joins fits its half of an entry
-pub data Fits : Row → Type 0 where
-  fits-none : Fits []
-  fits-more : {p : ℕ × ℕ} {ps : Row} → p .0 < 65536 → p .1 < 65536 → Fits ps → Fits (p ∷ ps)
-
-pub decode-encode : {row : Row} → Fits row → decode (encode row) ≡ row
+-- a row comes back whose ranks and joins each fit their half of an entry
+pub decode-encode : (row : Row) → ((i : ℕ) → i < length row → (rankAt row i < 65536) × (joinsAt row i < 65536))
+    → decode (encode row) ≡ row
 unfolding decode encode
-decode-encode fits-none = refl
-decode-encode (fits-more {p = p} a b rest) =
-    λ i. (rank-entry (p .0) (p .1) a i, joins-entry (p .0) (p .1) b i) ∷ decode-encode rest i
+decode-encode [] fits = refl
+decode-encode (p ∷ ps) fits =
+    let (a, b) = fits 0 (omega arith) in
+    λ i. (rank-entry (p .0) (p .1) a i, joins-entry (p .0) (p .1) b i) ∷ decode-encode ps (λ j h. fits (suc j) (omega arith)) i
 
 pub encode-append : (x y : Row) → encode (x ++ y) ≡ encode x ++ encode y
 unfolding encode
-encode-append [] y = refl
-encode-append (p ∷ ps) y = ap (λ (l : List ℕ). entryOf (p .0) (p .1) ∷ l) (encode-append ps y)
+encode-append = map-append _
 
 pub decode-append : (a b : List ℕ) → decode (a ++ b) ≡ decode a ++ decode b
 unfolding decode
-decode-append [] b = refl
-decode-append (e ∷ es) b = ap (λ (l : Row). (rankOf e, joinsOf e) ∷ l) (decode-append es b)
+decode-append = map-append _
 
 pub length-encode : (row : Row) → length (encode row) ≡ length row
 unfolding encode
-length-encode [] = refl
-length-encode (p ∷ ps) = ap suc (length-encode ps)
+length-encode row = length-map row _
 
 pub length-decode : (a : List ℕ) → length (decode a) ≡ length a
 unfolding decode
-length-decode [] = refl
-length-decode (e ∷ es) = ap suc (length-decode es)
-
-pub getD-encode : (row : Row) (i : ℕ) → i < length row
-    → getD (encode row) i 0 ≡ entryOf (getD row i (0, 0) .0) (getD row i (0, 0) .1)
-unfolding encode
-getD-encode [] i h = absurd (omega arith)
-getD-encode (p ∷ ps) zero h = refl
-getD-encode (p ∷ ps) (suc i) h = getD-encode ps i (omega arith)
+length-decode a = length-map a _
 
 pub getD-decode : (a : List ℕ) (i : ℕ) → i < length a → getD (decode a) i (0, 0) ≡ (rankOf (getD a i 0), joinsOf (getD a i 0))
-unfolding decode
-getD-decode [] i h = absurd (omega arith)
-getD-decode (e ∷ es) zero h = refl
-getD-decode (e ∷ es) (suc i) h = getD-decode es i (omega arith)
+unfolding decode rankOf joinsOf
+getD-decode a i h = List·getD-map _ a i 0
+
+-- the entries of a row whose ranks and joins are known
+pub decoded : (row : List ℕ) {x : Row} → decode row ≡ x → (i : ℕ) → i < length row
+    → (rankOf (getD row i 0) ≡ rankAt x i) × (joinsOf (getD row i 0) ≡ joinsAt x i)
+decoded row same i h =
+    let entry = sym (getD-decode row i h) ∙ ap (λ (x : Row). getD x i (0, 0)) same in
+    (ap (λ (z : ℕ × ℕ). z .0) entry, ap (λ (z : ℕ × ℕ). z .1) entry)
+
+-- what a decoded row holds stands in the row
+pub in-decoded : (row : List ℕ) (r m : ℕ) → In r m (decode row)
+    → (i : ℕ) × (i < length row) × (rankOf (getD row i 0) ≡ r) × (joinsOf (getD row i 0) ≡ m)
+in-decoded row r m mem =
+    let (i, l, q, j) = in-place (decode row) mem in
+    let inside : i < length row = omega (arith, length-decode row) in
+    let (rank, joins) = decoded row refl i inside in
+    (i, inside, rank ∙ q, joins ∙ j)
 
 -- ---- rows in the room
 
 -- the used places of a row end before the next row
 pub row-inside : {v n c w : ℕ} → v < n → c ≤ w → v * w + c ≤ n * w
 row-inside {v} {n} {c} {w} h k = omega (arith, suc-mul v w, mul-le-mul-right w h)
+
+-- place c of row v lies in the label room
+pub row-place : {n w v c : ℕ} → v < n → c < w → v * w + c < n * w
+row-place {n} {w} {v} {c} h k = omega (arith, row-inside {v = v} {n = n} {c = suc c} {w = w} h k)
+
+-- in a room of so many places
+pub row-ends : {places n v c w : ℕ} → places ≡ n * w → v < n → c ≤ w → v * w + c ≤ places
+row-ends e h k = omega (arith, e, row-inside h k)
 
 pub in-room : (w : ℕ) (labels : List ℕ) (v count : ℕ) → v < 4096 → w ≤ 256 → v * w + count ≤ length labels
     → inRoom w labels v count ≡ true
@@ -127,7 +138,13 @@ pub length-part : {n : ℕ} (w : ℕ) (labels : List ℕ) (v count : ℕ) → v 
 unfolding part
 length-part {n} w labels v count h k e =
     length-take-le count (drop (v * w) labels)
-    (simp length-drop (omega (arith, row-inside {v = v} {n = n} {c = count} {w = w} h k)))
+    (simp length-drop (omega (arith, row-ends e h k)))
+
+-- the used part of a row is as long as its count
+pub length-used : {n w : ℕ} (labels counts : List ℕ) {v : ℕ} → length labels ≡ n * w → v < n → getD counts v 0 ≤ w
+    → length (rowAt w labels counts v) ≡ getD counts v 0
+unfolding rowAt
+length-used {w = w} labels counts {v} e h k = length-part w labels v (getD counts v 0) h k e
 
 -- what is cut from a row's start for a count is so many of its entries
 pub cut-part : (w : ℕ) (labels : List ℕ) (v count : ℕ)
@@ -197,6 +214,10 @@ faultless-higher {bound} {higher} n row i h e =
     let f : Faultless bound n row i = faultless-entry bound n row i e in
     faultless higher n row i (omega (arith, f .rank)) (f .joins) (f .rising)
 
+-- a sound row is one under a higher bound too
+pub sound-higher : {bound higher n count : ℕ} {row : List ℕ} → bound ≤ higher → Sound bound n row count → Sound higher n row count
+sound-higher h s = record { rank = λ i l. omega (arith, s .rank i l); joins = s .joins; rising = s .rising }
+
 pub sound-of : (bound n : ℕ) (row : List ℕ) (count : ℕ) → some (faultyEntry bound n row) 0 count ≡ false → Sound bound n row count
 sound-of bound n row count e =
     let one : (i : ℕ) → i < count → Faultless bound n row i =
@@ -223,10 +244,20 @@ unfolding soundRow
 row-sound bound n w labels counts v e =
     let p : (leb (getD counts v 0) w ≡ true)
     × (not (some (faultyEntry bound n (rowAt w labels counts v)) 0 (getD counts v 0)) ≡ true) = both-true _ _ e in
-    (leb-true _ _ (p .0), sound-of bound n (rowAt w labels counts v) (getD counts v 0) (of-not-true _ (p .1)))
+    (leb-true _ _ (p .0), sound-of bound n (rowAt w labels counts v) (getD counts v 0) (not-true _ (p .1)))
 
 pub sound-row : (bound n w : ℕ) (labels counts : List ℕ) (v : ℕ) → getD counts v 0 ≤ w
     → Sound bound n (rowAt w labels counts v) (getD counts v 0) → soundRow bound n w labels counts v ≡ true
 unfolding soundRow
 sound-row bound n w labels counts v h s =
     both _ _ (le-leb _ _ h) (not-of-false (of-sound bound n (rowAt w labels counts v) (getD counts v 0) s))
+
+-- ---- a label room made row by row
+
+-- place i of row v holds that row's cell i
+pub part-table : (n w : ℕ) (cell : ℕ → ℕ → ℕ) (v count i : ℕ) → v < n → count ≤ w → i < count
+    → getD (part w (table (n * w) (λ p. cell (p / w) (p % w))) v count) i 0 ≡ cell v i
+part-table n w cell v count i h fits low =
+    let here : i < w = omega arith in
+    getD-part w _ v count i low ∙ getD-table (n * w) (λ p. cell (p / w) (p % w)) (v * w + i) 0 (row-place h here)
+    ∙ ap₂ cell (digits-div v here) (digits-mod v here)

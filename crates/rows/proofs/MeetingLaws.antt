@@ -1,5 +1,5 @@
 -- The laws of meetings along two rising rows: what one turn of the merge passes over, what it takes, and what it keeps.
-use Prim.Native.Nat.{ℕ, zero, suc, _+_, _≤_, _<_}
+use Prim.Native.Nat.{ℕ, zero, suc, _+_, _-_, _≤_, _<_}
 use mathlib.Core.Path.{_≡_, refl, sym, ap, _∙_}
 use mathlib.Core.List.{List, [], _∷_, _++_}
 use mathlib.Core.Logic.{_⊎_}
@@ -10,7 +10,7 @@ use borrow.Author.Tests.{lt-ltb, le-ltb, le-leb, lt-leb, eq-eqb, ne-eqb}
 use lib.ListN.{length, getD, drop, length-drop}
 use lib.Dec.{eqb}
 use lib.Seq.{drop-cons, drop-length, getD-drop}
-use Rattle.basics.proofs.Laws.{bcase, lt-or-ge, three-ways, cond-true, cond-false, either-left, cases}
+use Rattle.basics.proofs.Laws.{bcase, lt-or-ge, three-ways, cond-true, cond-false, either-left, cases, never-falls}
 use Rattle.rows.specs.Entry.{rankOf, joinsOf}
 use Rattle.rows.specs.Meetings.{Rises, meeting, meetingsAt, meetings, goesBefore, lesserOf, leastFrom, meetingOf, noSum, atRank, pastBy, lesserBy, bestOf}
 use Rattle.rows.specs.declared.merge.Meeting.{Meeting}
@@ -65,11 +65,9 @@ none-right (e ∷ a) = none-right a
 -- ---- rows, at a place
 
 rises-on : {row : List ℕ} → Rises row → (j i : ℕ) → j + i < length row → rankOf (getD row j 0) ≤ rankOf (getD row (j + i) 0)
-rises-on r j zero h = rw add-zero (omega arith)
-rises-on {row} r j (suc i) h =
-    let e : j + i + 1 ≡ j + suc i = omega arith in
-    let next : rankOf (getD row (j + i) 0) < rankOf (getD row (j + suc i) 0) = rw e at (r .next (j + i) (omega arith)) in
-    omega (arith, rises-on r j i (omega arith))
+rises-on {row} r j i h =
+    never-falls (λ v. rankOf (getD row v 0)) (length row - 1) (λ v l. omega (arith, r .next v (omega arith))) j (j + i)
+    (omega arith) (omega arith)
 
 above-from : {row : List ℕ} → Rises row → (r j : ℕ) → r < rankOf (getD row j 0) → Above r (drop j row)
 above-from {row} rise r j h i k =

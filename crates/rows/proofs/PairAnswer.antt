@@ -3,7 +3,7 @@
 use Prim.Native.Nat.{ℕ, zero, suc, _+_, _≤_, _<_, min}
 use mathlib.Core.Path.{_≡_, refl, sym, ap, subst, _∙_}
 use mathlib.Core.Bool.{true, false, cond}
-use mathlib.Core.List.{List, [], _∷_, _++_, List·Memᴰ·not-nil, List·Memᴰ·cases-cons}
+use mathlib.Core.List.{List, [], _∷_, _++_}
 use native.Mathlib.Decide.{ℕ-discrete}
 use native.Mathlib.Nat.{le-antisymm, one-mul}
 use native.Mathlib.Omega.{arith}
@@ -15,15 +15,16 @@ use Rattle.basics.proofs.Laws.{bcase, by-cases, three-ways, cond-true, cond-fal
 use Rattle.refusal.specs.declared.Verdict.the-variants.{Fine}
 use Rattle.theory.specs.Chains.{joins, Least}
 use Rattle.theory.specs.Distance.{far, said}
-use Rattle.theory.specs.Rows.{Row, In, Shared, at, answer}
-use Rattle.theory.proofs.Answer.{literal}
+use Rattle.theory.specs.Rows.{Row, Shared, at, answer}
+use Rattle.theory.proofs.Plain.{plain-literal}
 use Rattle.rows.specs.Entry.{rankOf, joinsOf, decode}
 use Rattle.rows.specs.Meetings.{meeting, meetingsAt, meetings, goesBefore, lesserOf, leastFrom, meetingOf}
-use Rattle.rows.specs.Pair.{pairTests, pairOf, answered, countOf}
+use Rattle.rows.specs.Pair.{pairTests, pairOf, answered, saidOf}
 use Rattle.rows.specs.Rooms.{rowAt}
 use Rattle.rows.specs.declared.merge.Meeting.{Meeting}
 use Rattle.rows.specs.declared.merge.Best.{Best}
 use Rattle.rows.specs.declared.merge.Best.the-variants.{Nowhere, Meet}
+use Rattle.rows.proofs.Laws.{in-decoded}
 use Rattle.rows.proofs.PairLaws.{pair-asked, sound-whole, answer-fine}
 
 -- ---- sums of meetings
@@ -186,8 +187,8 @@ least-below {B} {best} p (one-more {m = m} {ms = ms} h q) =
     (all, rest ∙ ap (λ (k : ℕ). min k (lowest B ms)) one ∙ omega arith)
 
 -- a best meeting as a count: its sum where that is below B, none where there is none
-counted : {B : ℕ} {best : Best} → Below B best → countOf (answered Fine best) ≡ said B (value B best)
-unfolding countOf answered said value
+counted : {B : ℕ} {best : Best} → Below B best → saidOf (answered Fine best) ≡ said B (value B best)
+unfolding saidOf answered said value
 counted {B} nowhere = sym (cond-false _ _ (le-ltb B B (omega arith)))
 counted {B} (meet {m = m} h) = sym (cond-true _ _ (lt-ltb (m .sum) B h))
 
@@ -198,7 +199,7 @@ from-nowhere B ms = omega (arith, lowest-most B ms)
 -- two rows of ranks and joins below n meet best where the theory's answer is
 pub best-answer : (B n : ℕ) (a b : List ℕ) → n + n ≤ B → ((i : ℕ) → i < length a → rankOf (getD a i 0) < n)
     → ((i : ℕ) → i < length a → joinsOf (getD a i 0) < n) → ((i : ℕ) → i < length b → joinsOf (getD b i 0) < n)
-    → countOf (answered Fine (meetingOf a b)) ≡ said B (answer B n (decode a) (decode b))
+    → saidOf (answered Fine (meetingOf a b)) ≡ said B (answer B n (decode a) (decode b))
 unfolding meetingOf
 best-answer B n a b h ranks small also =
     let (all, least) = least-below {B = B} {best = Nowhere} nowhere (all-below B n a b h small also) in
@@ -210,47 +211,33 @@ two-fit n = omega (arith, one-mul n)
 
 -- a pair question that is not refused gives the theory's answer of the two rows
 pub pair-answer : (n w : ℕ) (labels counts : List ℕ) (s t : ℕ) → pairTests n w labels counts s t ≡ Fine
-    → countOf (pairOf n w labels counts s t)
+    → saidOf (pairOf n w labels counts s t)
     ≡ said (far 1 n) (answer (far 1 n) n (decode (rowAt w labels counts s)) (decode (rowAt w labels counts t)))
 pair-answer n w labels counts s t e =
     let asked = pair-asked n w labels counts s t e in
     let one = sound-whole (asked .rooms) (asked .first) (asked .first-sound) in
     let two = sound-whole (asked .rooms) (asked .second) (asked .second-sound) in
-    ap countOf (answer-fine n w labels counts s t e refl)
+    ap saidOf (answer-fine n w labels counts s t e refl)
     ∙ best-answer (far 1 n) n (rowAt w labels counts s) (rowAt w labels counts t) (two-fit n)
     (one .rank) (one .joins) (two .joins)
 
 -- ---- in the paper's words
 
--- what a decoded row holds stands in the row
-in-decoded : (row : List ℕ) (r m : ℕ) → In r m (decode row)
-    → (i : ℕ) × (i < length row) × (rankOf (getD row i 0) ≡ r) × (joinsOf (getD row i 0) ≡ m)
-unfolding decode
-in-decoded [] r m h = absurd (List·Memᴰ·not-nil h)
-in-decoded (e ∷ es) r m h =
-    cases (List·Memᴰ·cases-cons h)
-    (λ q. (zero, omega arith, sym (ap (λ (p : ℕ × ℕ). p .0) q), sym (ap (λ (p : ℕ × ℕ). p .1) q)))
-    (λ k.
-    let (i, b, p, q) = in-decoded es r m k in
-    (suc i, omega arith, p, q))
-
 -- the answer for (s,t): the least sum of joins over ranks found in both rows; "none" if no rank is shared
 pub pair-literal : (n w : ℕ) (labels counts : List ℕ) (s t : ℕ) → pairTests n w labels counts s t ≡ Fine
     → Least (Shared (decode (rowAt w labels counts s)) (decode (rowAt w labels counts t)))
-    (countOf (pairOf n w labels counts s t))
+    (saidOf (pairOf n w labels counts s t))
 pair-literal n w labels counts s t e =
     let asked = pair-asked n w labels counts s t e in
     let one = sound-whole (asked .rooms) (asked .first) (asked .first-sound) in
     let two = sound-whole (asked .rooms) (asked .second) (asked .second-sound) in
     let x : Row = decode (rowAt w labels counts s) in
     let y : Row = decode (rowAt w labels counts t) in
-    let low : (r m : ℕ) → In r m x → r < n =
-    λ r m h.
+    subst (Least (Shared x y)) (sym (pair-answer n w labels counts s t e))
+    (plain-literal n x y
+    (λ r m h.
     let (i, b, p, q) = in-decoded (rowAt w labels counts s) r m h in
-    omega (arith, one .rank i b) in
-    let small : (m : ℕ) → Shared x y m → m < far 1 n =
-    λ m h.
-    let (i, b, p, q) = in-decoded (rowAt w labels counts s) (h .rank) (h .first) (h .in-first) in
-    let (j, d, f, g) = in-decoded (rowAt w labels counts t) (h .rank) (h .second) (h .in-second) in
-    omega (arith, one .joins i b, two .joins j d, h .whole, two-fit n) in
-    subst (Least (Shared x y)) (sym (pair-answer n w labels counts s t e)) (literal (far 1 n) n x y low small)
+    (omega (arith, one .rank i b), omega (arith, one .joins i b)))
+    (λ r m h.
+    let (i, b, p, q) = in-decoded (rowAt w labels counts t) r m h in
+    omega (arith, two .joins i b)))

@@ -1,17 +1,18 @@
 -- The laws of the pair question: its tests one by one, what they let through, and the cases of its answer.
-use Prim.Native.Nat.{ℕ, _≤_, _<_}
+use Prim.Native.Nat.{ℕ, _*_, _≤_, _<_}
 use mathlib.Core.Path.{_≡_, sym, ap, _∙_}
 use mathlib.Core.Bool.{true, false}
-use mathlib.Core.List.{List}
+use mathlib.Core.List.{List, []}
 use borrow.Author.Tests.{ltb-true, lt-ltb, le-ltb}
 use lib.ListN.{length, getD}
 use Rattle.refusal.specs.Numbers.{FRAME, ROW}
-use Rattle.refusal.specs.Tests.{_then_, refusal}
+use Rattle.refusal.specs.Tests.{_then_, refusal, ifFine}
 use Rattle.refusal.specs.declared.Refusal.{Refusal}
 use Rattle.refusal.specs.declared.Verdict.{Verdict}
 use Rattle.refusal.specs.declared.Verdict.the-variants.{Fine, Refused}
 use Rattle.refusal.proofs.Laws.{test-fine, test-refused, test-held, then-fine, after-fine, after-refused}
 use Rattle.rows.specs.Rooms.{Rooms, roomTests, frameTest, frameTests, rowTest, rowAt, soundRow, checkRow}
+use Rattle.rows.specs.Lookup.{rowOf, rowStart}
 use Rattle.rows.specs.Meetings.{meetingOf}
 use Rattle.rows.specs.Pair.{pairTests, pairOf, answered, RowIn}
 use Rattle.rows.specs.declared.merge.Best.{Best}
@@ -146,6 +147,13 @@ checked-row n w labels counts v e =
     let (rooms, inside) = frame-asked n w labels counts v frame in
     let sound = row-held n w labels counts v row in
     (row-in rooms inside sound, length-row rooms v inside (row-sound n n w labels counts v sound .0))
+
+-- what is handed back by what the check says
+pub row-by : (n w : ℕ) (labels counts : List ℕ) (v : ℕ) {x : Verdict} → checkRow n w labels counts v ≡ x
+    → (rowOf n w labels counts v ≡ ifFine x (rowAt w labels counts v) []) × (rowStart n w labels counts v ≡ ifFine x (v * w) 0)
+unfolding rowOf rowStart
+row-by n w labels counts v e =
+    (ap (λ (y : Verdict). ifFine y (rowAt w labels counts v) []) e, ap (λ (y : Verdict). ifFine y (v * w) 0) e)
 
 -- ---- the answer
 

@@ -1,23 +1,23 @@
 -- The laws of the tests on a label room and a count room: what they let through, and what each refuses.
-use Prim.Native.Nat.{ℕ, _+_, _*_, _≤_, _<_}
-use mathlib.Core.Path.{_≡_, refl, sym, ap, _∙_}
-use mathlib.Core.Bool.{Bool, true, false, not}
+use Prim.Native.Nat.{ℕ, _*_, _≤_, _<_}
+use mathlib.Core.Path.{_≡_, refl, _∙_}
+use mathlib.Core.Bool.{true, false, not}
 use mathlib.Core.List.{List}
 use native.Mathlib.Omega.{arith}
-use borrow.Author.Tests.{le-leb, lt-leb, eqb-true, eq-eqb, ne-eqb}
+use borrow.Author.Tests.{le-leb, lt-leb, eqb-true, eq-eqb, not-false}
 use lib.ListN.{length, getD}
 use lib.Dec.{eqb}
 use Rattle.basics.specs.Places.{sum, first, some}
-use Rattle.basics.proofs.Laws.{bcase, cond-true, both-true, both, of-not-false, not-of-true, first-before, first-none}
+use Rattle.basics.proofs.Laws.{bcase, cond-true, both-true, both, not-of-true}
 use Rattle.refusal.specs.Numbers.{SIZE, LENGTH, ROW}
 use Rattle.refusal.specs.Sizes.{sizesFit, Sizes}
 use Rattle.refusal.specs.Tests.{test, refusal}
 use Rattle.refusal.specs.declared.Refusal.{Refusal}
 use Rattle.refusal.specs.declared.Verdict.the-variants.{Fine, Refused}
-use Rattle.refusal.proofs.Laws.{test-fine, test-refused, test-held, then-fine, after-fine, after-refused, Numbered, test-numbered, then-numbered}
+use Rattle.refusal.proofs.Laws.{test-fine, test-refused, test-held, then-fine, after-fine, after-refused, Numbered, test-numbered, then-numbered, lowest-fine, lowest-refused, lowest-none, none-lowest}
 use Rattle.refusal.proofs.SizeLaws.{sizes-fit, sizes-held}
 use Rattle.rows.specs.Rooms.{totalOf, Rooms, RowLies, roomsFit, roomTests, rowsTest, checkRows, partOf, rowAt, soundRow, unsound, faultyEntry}
-use Rattle.rows.proofs.Laws.{row-inside, in-room, length-part}
+use Rattle.rows.proofs.Laws.{row-ends, in-room, length-used}
 
 rooms-fit : (n w : ℕ) (labels counts : List ℕ) → length labels ≡ n * w → length counts ≡ n → roomsFit n w labels counts ≡ true
 unfolding roomsFit
@@ -67,17 +67,15 @@ unfolding checkRows
 rows-alone bound n w labels counts r = after-fine _ (rooms-fine r)
 
 -- 9 for all rows: the first that is not sound, if there is one
-pub rows-fine : (bound n w : ℕ) (labels counts : List ℕ) → first (unsound bound n w labels counts) 0 n ≡ n
-    → rowsTest bound n w labels counts ≡ Fine
-unfolding rowsTest
-rows-fine bound n w labels counts e = test-fine ROW _ (eq-eqb _ _ e)
+module _ (bound : ℕ) {n w : ℕ} {labels counts : List ℕ} (r : Rooms n w labels counts) {v : ℕ}
+    (e : v ≡ first (unsound bound n w labels counts) 0 n) where
+  pub rows-fine : v ≡ n → checkRows bound n w labels counts ≡ Fine
+  unfolding rowsTest
+  rows-fine h = rows-alone bound n w labels counts r ∙ lowest-fine _ n ROW e h
 
-pub rows-refused : (bound n w : ℕ) (labels counts : List ℕ) {v : ℕ}
-    → v ≡ first (unsound bound n w labels counts) 0 n → (v ≡ n → ⊥)
-    → rowsTest bound n w labels counts ≡ Refused (refusal ROW v)
-unfolding rowsTest
-rows-refused bound n w labels counts {v} e h =
-    test-refused ROW _ (ne-eqb _ n (λ p. h (e ∙ p))) ∙ ap (λ (u : ℕ). Refused (refusal ROW u)) (sym e)
+  pub rows-refused : (v ≡ n → ⊥) → checkRows bound n w labels counts ≡ Refused (refusal ROW v)
+  unfolding rowsTest
+  rows-refused h = rows-alone bound n w labels counts r ∙ lowest-refused _ n ROW e h
 
 -- 1 or 2 for all rows
 pub rooms-refused : (bound n w : ℕ) (labels counts : List ℕ) {r : Refusal} → roomTests n w labels counts ≡ Refused r
@@ -88,7 +86,7 @@ rooms-refused bound n w labels counts e = after-refused _ e
 -- the used part of a row of such rooms
 module _ {n w : ℕ} {labels counts : List ℕ} (r : Rooms n w labels counts) (v : ℕ) (h : v < n) (k : getD counts v 0 ≤ w) where
   pub row-lies : RowLies w labels counts v
-  row-lies = record { counted = omega (arith, r .each); lies = omega (arith, r .places, row-inside h k) }
+  row-lies = record { counted = omega (arith, r .each); lies = row-ends (r .places) h k }
 
   pub part-is-row : partOf w labels v (getD counts v 0) ≡ rowAt w labels counts v
   unfolding partOf rowAt
@@ -97,8 +95,7 @@ module _ {n w : ℕ} {labels counts : List ℕ} (r : Rooms n w labels counts) (v
       (in-room w labels v (getD counts v 0) (omega (arith, r .sizes .frames)) (r .sizes .width) (row-lies .lies))
 
   pub length-row : length (rowAt w labels counts v) ≡ getD counts v 0
-  unfolding rowAt
-  length-row = length-part w labels v (getD counts v 0) h k (r .places)
+  length-row = length-used labels counts (r .places) h k
 
   pub sound-by-entries : (bound : ℕ)
       → soundRow bound n w labels counts v
@@ -112,23 +109,24 @@ pub count-unsound : (bound n w : ℕ) (labels counts : List ℕ) (v : ℕ) → w
 unfolding soundRow
 count-unsound bound n w labels counts v h = rw (lt-leb (getD counts v 0) w h) refl
 
+-- 9 for all rows is fine exactly if each is sound
+pub all-sound : (bound n w : ℕ) (labels counts : List ℕ) → rowsTest bound n w labels counts ≡ Fine
+    → (v : ℕ) → v < n → soundRow bound n w labels counts v ≡ true
+unfolding rowsTest
+all-sound bound n w labels counts e v h = not-false _ (lowest-none _ n ROW e v h)
+
+pub sound-all : (bound n w : ℕ) (labels counts : List ℕ) → ((v : ℕ) → v < n → soundRow bound n w labels counts v ≡ true)
+    → rowsTest bound n w labels counts ≡ Fine
+unfolding rowsTest
+sound-all bound n w labels counts sound = none-lowest _ n ROW (λ v h. not-of-true (sound v h))
+
 -- what the test of all rows lets through
 pub rows-sound : (bound n w : ℕ) (labels counts : List ℕ) → checkRows bound n w labels counts ≡ Fine
     → Rooms n w labels counts × ((v : ℕ) → v < n → soundRow bound n w labels counts v ≡ true)
-unfolding checkRows rowsTest
+unfolding checkRows
 rows-sound bound n w labels counts e =
-    let bad : ℕ → Bool = unsound bound n w labels counts in
-    let both = then-fine (roomTests n w labels counts) _ e in
-    let all : first bad 0 n ≡ n = eqb-true (first bad 0 n) n (test-held _ ROW _ (both .1)) in
-    (fine-rooms n w labels counts (both .0), λ v h. of-not-false _ (first-before bad 0 n v (omega arith) (omega arith)))
-
--- and what it asks
-pub sound-rows : (bound n w : ℕ) (labels counts : List ℕ) → Rooms n w labels counts
-    → ((v : ℕ) → v < n → soundRow bound n w labels counts v ≡ true) → checkRows bound n w labels counts ≡ Fine
-sound-rows bound n w labels counts r sound =
-    let bad : ℕ → Bool = unsound bound n w labels counts in
-    let all : first bad 0 n ≡ 0 + n = first-none bad 0 n (λ v h k. not-of-true (sound v (omega arith))) in
-    rows-alone bound n w labels counts r ∙ rows-fine bound n w labels counts (omega arith)
+    let (rooms, rows) = then-fine (roomTests n w labels counts) _ e in
+    (fine-rooms n w labels counts rooms, all-sound bound n w labels counts rows)
 
 -- the sum of a room that is not too long for an index
 pub total-sum : (counts : List ℕ) → length counts ≤ 4096 → totalOf counts ≡ sum counts

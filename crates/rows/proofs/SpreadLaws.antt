@@ -76,7 +76,7 @@ small-in (e ∷ es) =
     (λ q. rw q (omega (arith, joins-small e, small-in es)))
     (λ q. rw q (omega (arith, small-in es)))
 
-pub farthest-small : (w : ℕ) (labels counts : List ℕ) (k : ℕ) → farthest w labels counts k < 65536
+pub farthest-small : (w : ℕ) (labels counts : List ℕ) (v : ℕ) → farthest w labels counts v < 65536
 unfolding farthest
 farthest-small w labels counts zero = omega arith
 farthest-small w labels counts (suc v) = omega (arith, small-in (rowAt w labels counts v), farthest-small w labels counts v)

@@ -1,6 +1,7 @@
 -- The entry's layout: rank * 65,536 + joins.
-use Prim.Native.Nat.{ℕ, _+_, _*_, _/_, _%_}
-use mathlib.Core.List.{List, [], _∷_}
+use Prim.Native.Nat.{ℕ, _+_, _*_, _/_, _%_, _<_}
+use mathlib.Core.List.{List, map}
+use lib.ListN.{length, getD}
 use Rattle.theory.specs.Rows.{Row}
 
 -- an entry is a number of 32 bits
@@ -21,10 +22,12 @@ entryOf rank joins = rank % 65536 * 65536 + joins % 65536
 
 -- the ranks and joins of a list of entries
 unfoldable pub decode : List ℕ → Row
-decode [] = []
-decode (e ∷ es) = (rankOf e, joinsOf e) ∷ decode es
+decode row = map (λ (e : ℕ). (rankOf e, joinsOf e)) row
 
 -- the entries of a list of ranks and joins
 unfoldable pub encode : Row → List ℕ
-encode [] = []
-encode (p ∷ ps) = entryOf (p .0) (p .1) ∷ encode ps
+encode row = map (λ (p : ℕ × ℕ). entryOf (p .0) (p .1)) row
+
+-- every rank of the row has a place in this list
+abbrev pub RanksIn : List ℕ → List ℕ → Type 0
+RanksIn row list = (i : ℕ) → i < length row → rankOf (getD row i 0) < length list

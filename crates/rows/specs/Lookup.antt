@@ -2,14 +2,8 @@
 -- the empty part at the room's front.
 use Prim.Native.Nat.{ℕ, _*_}
 use mathlib.Core.List.{List, []}
-use Rattle.refusal.specs.declared.Verdict.{Verdict}
-use Rattle.refusal.specs.declared.Verdict.the-variants.{Fine, Refused}
+use Rattle.refusal.specs.Tests.{ifFine}
 use Rattle.rows.specs.Rooms.{rowAt, checkRow}
-
--- one thing behind a fine verdict, another behind a refusal
-unfoldable pub ifFine {ℓ} : {A : Type ℓ} → Verdict → A → A → A
-ifFine Fine x y = x
-ifFine (Refused r) x y = y
 
 -- the entries handed back
 unfoldable pub rowOf : ℕ → ℕ → List ℕ → List ℕ → ℕ → List ℕ

@@ -45,11 +45,11 @@ told (answers.Joins j) = record { number = 0; place = 0; found = true; joins = j
 told answers.None = record { number = 0; place = 0; found = false; joins = 0 }
 told (answers.Refused r) = record { number = r .number; place = r .place; found = false; joins = 0 }
 
--- the count that an answer gives
-unfoldable pub countOf : Answer → Count
-countOf (answers.Joins j) = joins j
-countOf answers.None = none
-countOf (answers.Refused r) = none
+-- what an answer says: its joins, or none
+unfoldable pub saidOf : Answer → Count
+saidOf (answers.Joins j) = joins j
+saidOf answers.None = none
+saidOf (answers.Refused r) = none
 
 -- a row that lies in the room with rising ranks: what the merge is handed
 pub record RowIn (w : ℕ) (labels counts : List ℕ) (v : ℕ) : Type 0 where

@@ -6,10 +6,10 @@ use mathlib.Core.Bool.{Bool, cond, not, _&&_, _||_}
 use mathlib.Core.List.{List, []}
 use lib.ListN.{length, getD, take, drop}
 use lib.Dec.{leb, ltb, eqb}
-use Rattle.basics.specs.Places.{first, some, sum}
+use Rattle.basics.specs.Places.{some, sum}
 use Rattle.refusal.specs.Numbers.{SIZE, LENGTH, FRAME, ROW}
 use Rattle.refusal.specs.Sizes.{sizesFit, Sizes}
-use Rattle.refusal.specs.Tests.{test, _then_}
+use Rattle.refusal.specs.Tests.{test, _then_, lowestTest}
 use Rattle.refusal.specs.declared.Verdict.{Verdict}
 use Rattle.rows.specs.Entry.{rankOf, joinsOf}
 
@@ -82,9 +82,7 @@ rowTest bound n w labels counts v = test (soundRow bound n w labels counts v) RO
 
 -- 9 for all rows: the lowest frame whose row is not sound
 unfoldable pub rowsTest : ℕ → ℕ → ℕ → List ℕ → List ℕ → Verdict
-rowsTest bound n w labels counts =
-    let v : ℕ = first (unsound bound n w labels counts) 0 n in
-    test (eqb v n) ROW v
+rowsTest bound n w labels counts = lowestTest (unsound bound n w labels counts) n ROW
 
 -- the test of all rows for a bound: 1, 2, 9
 unfoldable pub checkRows : ℕ → ℕ → ℕ → List ℕ → List ℕ → Verdict

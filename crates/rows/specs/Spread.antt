@@ -24,7 +24,7 @@ unfoldable pub frontJoins : List ℕ → ℕ
 frontJoins [] = 0
 frontJoins (e ∷ es) = joinsAtZero e
 
--- the largest joins among the used entries of rank 0 of rows 0 to k - 1, or 0
+-- the largest joins among the used entries of rank 0 of the rows below v, or 0
 unfoldable pub farthest : ℕ → List ℕ → List ℕ → ℕ → ℕ
 farthest w labels counts zero = 0
 farthest w labels counts (suc v) = max (farthestIn (rowAt w labels counts v)) (farthest w labels counts v)

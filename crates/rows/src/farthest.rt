@@ -1,5 +1,5 @@
-// The search for the largest joins among used entries of rank 0. In a sound row rank 0 can only stand first, so that only
-// the first entry of each row is read.
+// The joins of rank 0 in one row, and the larger of two. In a sound row rank 0 can only stand first, so that only the first
+// entry of each row is read.
 ghost use mathlib.Core.Path.{_≡_};
 ghost use Prim.Native.Nat.{_*_, _<_, max};
 ghost use lib.ListN.{length};

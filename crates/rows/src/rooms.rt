@@ -17,8 +17,8 @@ pub fn check_rooms(n: usize, w: usize, labels: &[Entry], counts: &[u32]) -> Verd
     if !sizes {
         return refusal::refused(SIZE, 0);
     }
-    let places = n * w;
-    if labels.len() != places {
+    let label_places = n * w;
+    if labels.len() != label_places {
         return refusal::refused(LENGTH, 0);
     }
     if counts.len() != n {

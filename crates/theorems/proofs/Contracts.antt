@@ -10,7 +10,7 @@ use denote.Triple.Clauses.{AtExit}
 use lib.ListN.{length, take, drop}
 use Rattle.theory.specs.Links.{hubOf}
 use Rattle.theory.specs.Chains.{Least, Through}
-use Rattle.rows.specs.Pair.{pairOf, told, countOf}
+use Rattle.rows.specs.Pair.{pairOf, told, saidOf}
 use Rattle.rows.specs.declared.pair.Answer.{Answer}
 use Rattle.rows.proofs.pair.pair.Kinds as pair-kinds
 use Rattle.rows.proofs.pair.pair.Reads as pair-reads
@@ -20,7 +20,7 @@ use Rattle.build.specs.declared.Built.the-variants.{Entries}
 use Rattle.build.proofs.build.Kinds as build-kinds
 use Rattle.build.proofs.build.Reads as build-reads
 use Rattle.file.specs.Bits.{Bytes}
-use Rattle.file.specs.Layout.{stored, Same}
+use Rattle.file.specs.Layout.{fileSize, stored, Same}
 use Rattle.file.specs.Reader.{outcome as read, readOf}
 use Rattle.file.specs.Writer.{wrote, writeOf}
 use Rattle.file.specs.declared.Opened.{Opened}
@@ -30,7 +30,7 @@ use Rattle.file.proofs.write.Reads as write-reads
 use Rattle.file.proofs.read.Kinds as read-kinds
 use Rattle.file.proofs.read.Reads as read-reads
 use Rattle.theorems.specs.Demands.{Joins, Demands}
-use Rattle.theorems.specs.EndToEnd.{EndToEnd, fileSize}
+use Rattle.theorems.specs.EndToEnd.{EndToEnd}
 use Rattle.theorems.proofs.Demand.{built-demands}
 use Rattle.theorems.proofs.EndToEnd.{end-to-end}
 use Rattle.theorems.proofs.Trips.{write-then-read, read-then-written}
@@ -153,10 +153,10 @@ calls-end-to-end built enough wrote p q r back =
 -- and whichever of these rooms is then asked, what the pair question hands back is demand 3's answer, with number 0
 pub calls-asked : {n w k : ℕ} {S L O labels counts : List ℕ} {s t : ℕ} {r : Answer} → Demands n w k S L O labels counts
     → PairCall n w labels counts s t r → s < n → t < n
-    → (told r .number ≡ 0) × Least (Through (Joins S L) (hubOf O) k s t) (countOf r)
+    → (told r .number ≡ 0) × Least (Through (Joins S L) (hubOf O) k s t) (saidOf r)
 calls-asked {k} {S} {L} {O} {s} {t} d c p q = (
   ap (λ (x : Answer). told x .number) (pair-out c) ∙ d .taken s t p q,
-  subst (Least (Through (Joins S L) (hubOf O) k s t)) (sym (ap countOf (pair-out c))) (d .fewest s t p q),
+  subst (Least (Through (Joins S L) (hubOf O) k s t)) (sym (ap saidOf (pair-out c))) (d .fewest s t p q),
 )
 
 -- any index written, and read back with the same W into rooms of the right lengths, is the same index
@@ -170,8 +170,8 @@ calls-write-read c p q r back =
     write-then-read _ _ _ _ _ _ _ _ _ _ (write-out c) _ refl _ _ _ p q r _ _ _ _ (read-out back)
 
 -- any file read, and its index written again with the same W into room enough, is the same file
-pub calls-read-write : {bytes : List ℕ} → Bytes bytes → {n w k : ℕ} {order labels counts O L C : List ℕ}
-    → ReadCall bytes w order labels counts (Opened.Index n k) O L C
-    → {out : List ℕ} {start : ℕ} {written : Written} {room : List ℕ} → WriteCall n w k O L C out start written room
+pub calls-read-write : {bytes : List ℕ} → Bytes bytes → {n w k : ℕ} {order₁ labels₁ counts₁ order₂ labels₂ counts₂ : List ℕ}
+    → ReadCall bytes w order₁ labels₁ counts₁ (Opened.Index n k) order₂ labels₂ counts₂
+    → {out : List ℕ} {start : ℕ} {written : Written} {room : List ℕ} → WriteCall n w k order₂ labels₂ counts₂ out start written room
     → start + length bytes ≤ length out → (written ≡ Written.Bytes (length bytes)) × (take (length bytes) (drop start room) ≡ bytes)
 calls-read-write b c d enough = read-then-written _ b _ _ _ _ _ _ _ _ _ (read-out c) _ _ _ _ (write-out d) enough

@@ -7,6 +7,7 @@ use native.Mathlib.Omega.{arith}
 use lib.ListN.{length, getD, take, drop, List·getD-eq-default}
 use Rattle.basics.specs.Places.{sum}
 use Rattle.basics.proofs.Laws.{lt-or-ge}
+use Rattle.links.proofs.Order.{order-passes}
 use Rattle.rows.specs.Entry.{decode}
 use Rattle.rows.specs.Pair.{pairOf}
 use Rattle.rows.specs.Rooms.{Rooms}
@@ -14,13 +15,13 @@ use Rattle.rows.proofs.Laws.{entry-at}
 use Rattle.rows.proofs.PairDepends.{SameRow, pair-depends}
 use Rattle.build.specs.Build.{outcome, buildOf}
 use Rattle.build.specs.declared.Built.the-variants.{Entries}
-use Rattle.file.specs.Layout.{stored, Same}
+use Rattle.file.specs.Layout.{fileSize, stored, Same}
 use Rattle.file.specs.Reader.{outcome as read, readOf}
 use Rattle.file.specs.Writer.{Fit, wrote, writeOf}
 use Rattle.file.specs.declared.Opened.{Opened}
 use Rattle.file.specs.declared.Written.{Written}
 use Rattle.file.proofs.ReadWrite.{read-takes}
-use Rattle.theorems.specs.EndToEnd.{EndToEnd, fileSize}
+use Rattle.theorems.specs.EndToEnd.{EndToEnd}
 use Rattle.theorems.proofs.Built.{Made, built-tests, built-held}
 use Rattle.theorems.proofs.Demand.{held-demands}
 use Rattle.theorems.proofs.Held.{Held, held-rows}
@@ -31,7 +32,7 @@ pub built-fit : {n w k : ℕ} {S L O : List ℕ} {entries : ℕ} {labels counts 
     → Made n w k S L O entries labels counts met queue → Fit n k w O labels counts
 built-fit m =
     let h = built-held m in
-    record { rooms = h .rooms; stop = m .stop; long = m .order .long; once = m .once; sound = held-rows h }
+    record { rooms = h .rooms; stop = m .given .stop; long = m .given .order .long; once = order-passes _ _ (m .given .order); sound = held-rows h }
 
 module _ {n w k : ℕ} {S L O labels counts : List ℕ} (h : Held n w k S L O labels counts) {order₂ labels₂ counts₂ : List ℕ}
     (rooms₂ : Rooms n w labels₂ counts₂) (same : Same (stored n k w O labels counts) (stored n k w order₂ labels₂ counts₂)) where

@@ -19,8 +19,8 @@ use Rattle.rows.specs.Meetings.{meetingOf}
 use Rattle.rows.specs.Pair.{pairTests, answered, pairOf, told}
 use Rattle.rows.specs.Rooms.{Rooms, rowAt, soundRow, rowsTest}
 use Rattle.rows.specs.declared.merge.Best.{Best}
-use Rattle.rows.proofs.Laws.{Sound, sound-row, length-decode, getD-decode}
-use Rattle.rows.proofs.RoomLaws.{length-row, sound-rows, rows-alone}
+use Rattle.rows.proofs.Laws.{Sound, sound-row, sound-higher, length-decode, decoded}
+use Rattle.rows.proofs.RoomLaws.{length-row, sound-all}
 use Rattle.rows.proofs.PairLaws.{asked-fine}
 use Rattle.rows.proofs.PairAnswer.{pair-answer}
 use Rattle.theorems.specs.Demands.{askedOf}
@@ -47,6 +47,24 @@ told-fine n w labels counts s t e =
     let best : Best = meetingOf (rowAt w labels counts s) (rowAt w labels counts t) in
     ap (λ (v : Verdict). told (answered v best) .number) e ∙ fine-told best
 
+-- rooms whose rows are sound for a stop
+module _ {n w k : ℕ} {labels counts : List ℕ} (rooms : Rooms n w labels counts) (stop : k ≤ n)
+    (narrow : (v : ℕ) → v < n → getD counts v 0 ≤ w)
+    (sound : (v : ℕ) → v < n → Sound k n (rowAt w labels counts v) (getD counts v 0)) where
+  row-sound : (v : ℕ) → v < n → soundRow n n w labels counts v ≡ true
+  row-sound v p = sound-row n n w labels counts v (narrow v p) (sound-higher stop (sound v p))
+
+  -- no pair of frames is refused
+  pub sound-fine : (s t : ℕ) → s < n → t < n → pairTests n w labels counts s t ≡ Fine
+  sound-fine s t p q =
+      asked-fine record { rooms = rooms; first = p; second = q; first-sound = row-sound s p; second-sound = row-sound t q }
+
+  -- and the answer is the theory's over the rows R that the rooms hold
+  pub sound-answer : (R : ℕ → Row) → ((v : ℕ) → v < n → decode (rowAt w labels counts v) ≡ R v) → (s t : ℕ) → s < n → t < n
+      → askedOf n w labels counts s t ≡ said (far 1 n) (answer (far 1 n) n (R s) (R t))
+  sound-answer R rows s t p q =
+      pair-answer n w labels counts s t (sound-fine s t p q) ∙ (λ i. said (far 1 n) (answer (far 1 n) n (rows s p i) (rows t q i)))
+
 module _ {n w k : ℕ} {S L O labels counts : List ℕ} (h : Held n w k S L O labels counts) where
   pub held-length : (v : ℕ) → v < n → length (rowAt w labels counts v) ≡ getD counts v 0
   held-length v p = length-row (h .rooms) v p (h .narrow v p)
@@ -55,17 +73,10 @@ module _ {n w k : ℕ} {S L O labels counts : List ℕ} (h : Held n w k S L O la
   rule-length v p =
       sym (ap (λ (x : Row). length x) (h .rows v p)) ∙ length-decode (rowAt w labels counts v) ∙ held-length v p
 
-  pub held-rank : (v i : ℕ) → v < n → i < getD counts v 0
-      → rankOf (getD (rowAt w labels counts v) i 0) ≡ rankAt (rowBy n S L O k v) i
-  held-rank v i p l =
-      sym (ap (λ (e : ℕ × ℕ). e .0) (getD-decode (rowAt w labels counts v) i (omega (arith, held-length v p))))
-      ∙ ap (λ (x : Row). rankAt x i) (h .rows v p)
-
-  held-joins : (v i : ℕ) → v < n → i < getD counts v 0
-      → joinsOf (getD (rowAt w labels counts v) i 0) ≡ joinsAt (rowBy n S L O k v) i
-  held-joins v i p l =
-      sym (ap (λ (e : ℕ × ℕ). e .1) (getD-decode (rowAt w labels counts v) i (omega (arith, held-length v p))))
-      ∙ ap (λ (x : Row). joinsAt x i) (h .rows v p)
+  held-entry : (v i : ℕ) → v < n → i < getD counts v 0
+      → (rankOf (getD (rowAt w labels counts v) i 0) ≡ rankAt (rowBy n S L O k v) i)
+      × (joinsOf (getD (rowAt w labels counts v) i 0) ≡ joinsAt (rowBy n S L O k v) i)
+  held-entry v i p l = decoded (rowAt w labels counts v) (h .rows v p) i (omega (arith, held-length v p))
 
   -- ranks strictly rise below k, joins are below n
   pub held-sound : (v : ℕ) → v < n → Sound k n (rowAt w labels counts v) (getD counts v 0)
@@ -74,29 +85,21 @@ module _ {n w k : ℕ} {S L O labels counts : List ℕ} (h : Held n w k S L O la
       let stop : k ≤ n = h .stop in
       record {
         rank = λ i l.
-            omega (arith, held-rank v i p l, plain-places (h .block) (h .order) k v i stop p (omega arith) .0);
+            omega (arith, held-entry v i p l .0, plain-places (h .block) (h .order) k v i stop p (omega arith) .0);
         joins = λ i l.
-            omega (arith, held-joins v i p l, plain-places (h .block) (h .order) k v i stop p (omega arith) .1);
+            omega (arith, held-entry v i p l .1, plain-places (h .block) (h .order) k v i stop p (omega arith) .1);
         rising = λ i l.
             omega (
               arith,
-              held-rank v i p (omega arith),
-              held-rank v (i + 1) p l,
+              held-entry v i p (omega arith) .0,
+              held-entry v (i + 1) p l .0,
               plain-rising n S L O k v .rise i (i + 1) (omega arith) (omega arith),
             );
       }
 
-  pub held-row : (bound v : ℕ) → k ≤ bound → v < n → soundRow bound n w labels counts v ≡ true
-  held-row bound v up p =
-      let s : Sound k n (rowAt w labels counts v) (getD counts v 0) = held-sound v p in
-      sound-row bound n w labels counts v (h .narrow v p)
-      record { rank = λ i l. omega (arith, s .rank i l); joins = s .joins; rising = s .rising }
-
   -- every row is sound for the bound k, as the writer asks
   pub held-rows : rowsTest k n w labels counts ≡ Fine
-  held-rows =
-      sym (rows-alone k n w labels counts (h .rooms))
-      ∙ sound-rows k n w labels counts (h .rooms) (λ v p. held-row k v (omega arith) p)
+  held-rows = sound-all k n w labels counts (λ v p. sound-row k n w labels counts v (h .narrow v p) (held-sound v p))
 
   -- the rows are the walks'
   pub held-walks : (v : ℕ) → v < n → decode (rowAt w labels counts v) ≡ walks (far 1 n) n (joined S L) (hubOf O) k v
@@ -104,19 +107,8 @@ module _ {n w k : ℕ} {S L O labels counts : List ℕ} (h : Held n w k S L O la
 
   -- no pair of frames is refused
   pub held-fine : (s t : ℕ) → s < n → t < n → pairTests n w labels counts s t ≡ Fine
-  held-fine s t p q =
-      asked-fine
-      record {
-        rooms = h .rooms;
-        first = p;
-        second = q;
-        first-sound = held-row n s (h .stop) p;
-        second-sound = held-row n t (h .stop) q;
-      }
+  held-fine = sound-fine (h .rooms) (h .stop) (h .narrow) held-sound
 
   -- and the answer is the theory's
   pub held-answer : (s t : ℕ) → s < n → t < n → askedOf n w labels counts s t ≡ said (far 1 n) (answerBy n S L O k s t)
-  held-answer s t p q =
-      let a : decode (rowAt w labels counts s) ≡ rowBy n S L O k s = h .rows s p in
-      let b : decode (rowAt w labels counts t) ≡ rowBy n S L O k t = h .rows t q in
-      pair-answer n w labels counts s t (held-fine s t p q) ∙ (λ i. said (far 1 n) (answer (far 1 n) n (a i) (b i)))
+  held-answer = sound-answer (h .rooms) (h .stop) (h .narrow) held-sound (rowBy n S L O k) (h .rows)

@@ -2,7 +2,7 @@
 -- less and is sound, so the pair of its hub and v is answered by the theory, and otherwise.
 use Prim.Native.Nat.{ℕ, suc, _+_, _-_, _*_, _≤_, _<_}
 use mathlib.Core.Path.{_≡_, refl, sym, ap, subst, _∙_}
-use mathlib.Core.Bool.{true, false, _&&_}
+use mathlib.Core.Bool.{false, _&&_}
 use mathlib.Core.List.{List, _∷_, _++_}
 use native.Mathlib.Decide.{ℕ-discrete}
 use native.Mathlib.Omega.{arith}
@@ -13,20 +13,17 @@ use lib.Dec.{leb, ltb}
 use Rattle.basics.proofs.Laws.{by-cases, lt-or-ge, three-ways, cond-false, length-table, getD-table}
 use Rattle.refusal.specs.declared.Verdict.the-variants.{Fine}
 use Rattle.theory.specs.Links.{hubOf}
-use Rattle.theory.specs.Distance.{far, said}
-use Rattle.theory.specs.Rows.{Row, answer, instead}
+use Rattle.theory.specs.Rows.{Row, instead}
 use Rattle.theory.specs.Plain.{rowBy}
 use Rattle.theory.proofs.Spare.{instead-at, instead-not}
 use Rattle.theory.proofs.Plain.{plain-spare}
 use Rattle.rows.specs.Entry.{rankOf, joinsOf, decode}
 use Rattle.rows.specs.Pair.{pairTests}
-use Rattle.rows.specs.Rooms.{Rooms, rowAt, soundRow}
-use Rattle.rows.proofs.Laws.{Sound, sound-row, row-inside, entry-at, decode-append}
+use Rattle.rows.specs.Rooms.{Rooms, rowAt}
+use Rattle.rows.proofs.Laws.{Sound, row-inside, row-place, entry-at, decode-append}
 use Rattle.rows.proofs.RoomLaws.{length-row}
-use Rattle.rows.proofs.PairLaws.{asked-fine}
-use Rattle.rows.proofs.PairAnswer.{pair-answer}
 use Rattle.theorems.specs.Demands.{askedOf, labelsWithout, countsWithout, hubAt}
-use Rattle.theorems.proofs.Held.{Held, held-length, held-sound, held-answer}
+use Rattle.theorems.proofs.Held.{Held, held-length, held-sound, held-answer, sound-fine, sound-answer}
 
 module _ {n w k : ℕ} {S L O labels counts : List ℕ} (h : Held n w k S L O labels counts)
     (v i : ℕ) (p : v < n) (l : i < getD counts v 0) where
@@ -44,15 +41,15 @@ module _ {n w k : ℕ} {S L O labels counts : List ℕ} (h : Held n w k S L O la
 
   long-counts : length counts' ≡ n
   unfolding countsWithout
-  long-counts = length-set counts v (getD counts v 0 - 1) ∙ h .rooms .each
+  long-counts = length-set counts v _ ∙ h .rooms .each
 
   one-less : getD counts' v 0 ≡ getD counts v 0 - 1
   unfolding countsWithout
-  one-less = getD-set-same counts v (getD counts v 0 - 1) 0 (omega (arith, h .rooms .each))
+  one-less = getD-set-same counts v _ 0 (omega (arith, h .rooms .each))
 
   no-less : (u : ℕ) → (u ≡ v → ⊥) → getD counts' u 0 ≡ getD counts u 0
   unfolding countsWithout
-  no-less u e = getD-set-other counts v u (getD counts v 0 - 1) 0 e
+  no-less u e = getD-set-other counts v u _ 0 e
 
   rooms' : Rooms n w labels' counts'
   rooms' =
@@ -98,14 +95,14 @@ module _ {n w k : ℕ} {S L O labels counts : List ℕ} (h : Held n w k S L O la
   other-place : (u j : ℕ) → u < n → (u ≡ v → ⊥) → j < getD counts u 0 → getD labels' (u * w + j) 0 ≡ getD labels (u * w + j) 0
   other-place u j q e g =
       let wide : getD counts u 0 ≤ w = h .narrow u q in
-      let inside : u * w + suc j ≤ n * w = row-inside {v = u} {n = n} {c = suc j} {w = w} q (omega arith) in
+      let inside : u * w + j < n * w = row-place q (omega arith) in
       three-ways u v
       (λ less.
-      before (u * w + j) (omega arith)
-      (omega (arith, row-inside {v = u} {n = v} {c = suc j} {w = w} less (omega arith))))
+      before (u * w + j) inside
+      (omega (arith, row-place {n = v} {w = w} {v = u} {c = j} less (omega arith))))
       (λ same. absurd (e same))
       (λ more.
-      behind (u * w + j) (omega arith)
+      behind (u * w + j) inside
       (omega (arith, row-inside {v = v} {n = u} {c = getD counts v 0} {w = w} more (h .narrow v p))))
 
   length' : (u : ℕ) → u < n → length (rowAt w labels' counts' u) ≡ getD counts' u 0
@@ -123,20 +120,16 @@ module _ {n w k : ℕ} {S L O labels counts : List ℕ} (h : Held n w k S L O la
   -- row v, entry by entry
   front : (j : ℕ) → j < i → getD (rowAt w labels' counts' v) j 0 ≡ getD (rowAt w labels counts v) j 0
   front j g =
-      let inside : v * w + suc j ≤ n * w =
-      row-inside {v = v} {n = n} {c = suc j} {w = w} p (omega (arith, h .narrow v p)) in
       entry-at w labels' counts' v j (omega (arith, one-less))
-      ∙ before (v * w + j) (omega arith) (omega arith)
+      ∙ before (v * w + j) (row-place p (omega (arith, h .narrow v p))) (omega arith)
       ∙ sym (entry-at w labels counts v j (omega arith))
 
   rest : (j : ℕ) → i ≤ j → j + 1 < getD counts v 0
       → getD (rowAt w labels' counts' v) j 0 ≡ getD (rowAt w labels counts v) (j + 1) 0
   rest j g f =
-      let inside : v * w + suc j ≤ n * w =
-      row-inside {v = v} {n = n} {c = suc j} {w = w} p (omega (arith, h .narrow v p)) in
       let next : v * w + j + 1 ≡ v * w + (j + 1) = omega arith in
       entry-at w labels' counts' v j (omega (arith, one-less))
-      ∙ moves (v * w + j) (omega arith) (omega arith) (omega arith)
+      ∙ moves (v * w + j) (row-place p (omega (arith, h .narrow v p))) (omega arith) (omega arith)
       ∙ ap (λ (z : ℕ). getD labels z 0) next
       ∙ sym (entry-at w labels counts v (j + 1) f)
 
@@ -224,22 +217,16 @@ module _ {n w k : ℕ} {S L O labels counts : List ℕ} (h : Held n w k S L O la
       (λ e.
       ap decode (other-row u q e) ∙ h .rows u q ∙ sym (instead-not (rowBy n S L O k) v (xs ++ ys) u e))
 
-  row-sound' : (u : ℕ) → u < n → soundRow n n w labels' counts' u ≡ true
-  row-sound' u q =
-      let stop : k ≤ n = h .stop in
-      let each : Sound k n (rowAt w labels' counts' u) (getD counts' u 0) =
+  sounds' : (u : ℕ) → u < n → Sound k n (rowAt w labels' counts' u) (getD counts' u 0)
+  sounds' u q =
       by-cases (ℕ-discrete u v)
       (λ (e : u ≡ v). subst (λ (z : ℕ). Sound k n (rowAt w labels' counts' z) (getD counts' z 0)) (sym e) sound')
       (λ e.
       subst (λ (r : List ℕ). Sound k n r (getD counts' u 0)) (sym (other-row u q e))
-      (subst (Sound k n (rowAt w labels counts u)) (sym (no-less u e)) (held-sound h u q))) in
-      sound-row n n w labels' counts' u (narrow' u q)
-      record { rank = λ j g. omega (arith, each .rank j g); joins = each .joins; rising = each .rising }
+      (subst (Sound k n (rowAt w labels counts u)) (sym (no-less u e)) (held-sound h u q)))
 
   pub without-fine : (s t : ℕ) → s < n → t < n → pairTests n w labels' counts' s t ≡ Fine
-  without-fine s t a b =
-      asked-fine
-      record { rooms = rooms'; first = a; second = b; first-sound = row-sound' s a; second-sound = row-sound' t b }
+  without-fine = sound-fine rooms' (h .stop) narrow' sounds'
 
   pub hub-inside : hubAt w O labels v i < n
   unfolding hubAt
@@ -252,10 +239,7 @@ module _ {n w k : ℕ} {S L O labels counts : List ℕ} (h : Held n w k S L O la
   spare-none e =
       let hub : ℕ = hubOf O (rankOf taken) in
       let g : hub < n = hub-inside in
-      let a : decode (rowAt w labels' counts' hub) ≡ instead (rowBy n S L O k) v (xs ++ ys) hub = rows' hub g in
-      let b : decode (rowAt w labels' counts' v) ≡ instead (rowBy n S L O k) v (xs ++ ys) v = rows' v p in
       plain-spare (h .block) (h .order) k v (h .stop) p xs (rankOf taken) (joinsOf taken) ys split
       (sym (held-answer h hub v g p)
       ∙ sym e
-      ∙ pair-answer n w labels' counts' hub v (without-fine hub v g p)
-      ∙ (λ j. said (far 1 n) (answer (far 1 n) n (a j) (b j))))
+      ∙ sound-answer rooms' (h .stop) narrow' sounds' (instead (rowBy n S L O k) v (xs ++ ys)) rows' hub v g p)

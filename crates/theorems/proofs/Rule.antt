@@ -9,8 +9,7 @@ use Rattle.theory.specs.Chains.{joins, Least}
 use Rattle.theory.specs.Distance.{far}
 use Rattle.theory.specs.Rows.{In}
 use Rattle.theory.specs.Plain.{ones, joinsTo}
-use Rattle.theory.proofs.Answer.{said-joins, said-is}
-use Rattle.theory.proofs.DistLeast.{least-one}
+use Rattle.theory.proofs.DistLeast.{least-one, said-joins, said-is}
 use Rattle.theory.proofs.DistPlain.{joins-is}
 use Rattle.theory.proofs.Plain.{plain-in-row}
 use Rattle.rows.specs.Entry.{decode}

@@ -2,15 +2,15 @@
 use Prim.Native.Nat.{ℕ, zero, suc, _<_}
 use mathlib.Core.Path.{_≡_, refl}
 use native.Mathlib.Omega.{arith}
-use Rattle.basics.specs.Places.{first, some, count, least, table, sum}
-use Rattle.refusal.specs.Tests.{test, _then_}
+use Rattle.basics.specs.Places.{first, some, stands, count, least, table, sum}
+use Rattle.refusal.specs.Tests.{test, _then_, ifFine}
 use Rattle.theory.specs.Links.{inList}
 use Rattle.theory.specs.Distance.{far, weight, via, dist}
 use Rattle.theory.specs.Rows.{hubs, keep, ruleRow}
 use Rattle.theory.specs.Plain.{joinsTo, rowBy}
 use Rattle.refusal.specs.Sizes.{framesFit, widthFits, placesFit, sizesFit}
 use Rattle.links.specs.Links.{startsRight, degree, holds, faultyLink, faultyList, sizesTest, startsTest, listsTest}
-use Rattle.links.specs.Order.{stands, faultyRank, orderTest, before, ahead, orderByDegree, degreeTests, orderedBy, degreeOf}
+use Rattle.links.specs.Order.{faultyRank, orderTest, before, ahead, orderByDegree, degreeTests, degreeOf}
 use Rattle.rows.specs.Entry.{rankOf, joinsOf, entryOf, decode, encode}
 use Rattle.rows.specs.Rooms.{roomsFit, roomTests, part, rowAt, faultyEntry, soundRow, frameTest, frameTests, rowTest, rowsTest}
 use Rattle.rows.specs.Meetings.{meetingsAt, meetings, goesBefore, lesserOf, leastFrom, meetingOf}
@@ -32,7 +32,7 @@ use Rattle.build.specs.Build.{
   buildOf,
 }
 use Rattle.file.specs.Bits.{bitLen, num, bytesOf, byteLen, padLen, packed}
-use Rattle.file.specs.Layout.{eachOf, headerFields, rowFields, rowsFields, fileFields, fileOf, lengthsFit}
+use Rattle.file.specs.Layout.{fieldsFrom, headerFields, rowFields, fileFields, fileOf, lengthsFit}
 use Rattle.file.specs.Writer.{indexSizes, writeTests, outFits, outTest, wrote, filledFrom, writeOf}
 use Rattle.theorems.specs.Starred.{asked, chainTo, ring, threeTo, one, Starred}
 
@@ -45,14 +45,14 @@ each-frame P a b c d (suc (suc (suc zero))) h = d
 each-frame P a b c d (suc (suc (suc (suc v)))) h = absurd (omega arith)
 
 pub starred : Starred
-unfolding chainTo ring threeTo one first some count least table sum test _then_
+unfolding chainTo ring threeTo one first some count least table sum test _then_ ifFine
     inList far weight via dist hubs keep ruleRow joinsTo rowBy
     framesFit widthFits placesFit startsRight degree holds faultyLink faultyList sizesTest startsTest listsTest
-    stands faultyRank orderTest before ahead orderByDegree degreeTests orderedBy degreeOf
+    stands faultyRank orderTest before ahead orderByDegree degreeTests degreeOf
     rankOf joinsOf entryOf decode encode sizesFit roomsFit roomTests part rowAt faultyEntry soundRow frameTest frameTests rowTest rowsTest
     meetingsAt meetings goesBefore lesserOf leastFrom meetingOf pairTests answered pairOf
     labelsOf countsOf buildSizes buildRooms buildTests fullAt farFrame farAt stopAt walksTest afterWalks afterTests buildOf
-    bitLen num bytesOf byteLen padLen packed eachOf headerFields rowFields rowsFields fileFields fileOf
+    bitLen num bytesOf byteLen padLen packed fieldsFrom headerFields rowFields fileFields fileOf
     lengthsFit indexSizes writeTests outFits outTest wrote filledFrom writeOf
 starred =
     record {

@@ -7,7 +7,7 @@ use native.Mathlib.Omega.{arith}
 use lib.ListN.{length, take, drop}
 use Rattle.basics.specs.Places.{sum}
 use Rattle.file.specs.Bits.{Bytes}
-use Rattle.file.specs.Layout.{fileOf, stored, Same}
+use Rattle.file.specs.Layout.{fileOf, fileSize, stored, Same}
 use Rattle.file.specs.Reader.{outcome, readOf}
 use Rattle.file.specs.Writer.{Fit, wrote, writeOf}
 use Rattle.file.specs.declared.Opened.{Opened}
@@ -16,7 +16,6 @@ use Rattle.file.proofs.Fit.{fit-fine, file-bytes}
 use Rattle.file.proofs.ReadWrite.{read-takes, read-then-write, read-written}
 use Rattle.file.proofs.WriteRead.{write-read-here}
 use Rattle.file.proofs.Writing.{out-fits, write-filled, write-same}
-use Rattle.theorems.specs.EndToEnd.{fileSize}
 
 module _ (n k w : ℕ) (O labels counts out : List ℕ) (start : ℕ) (written : Written) (room : List ℕ)
     (given : wrote written room ≡ writeOf n k w O labels counts out start) where
@@ -39,20 +38,20 @@ module _ (n k w : ℕ) (O labels counts out : List ℕ) (start : ℕ) (written :
       order₁ labels₁ counts₁ p q r order₂ labels₂ counts₂ opened back
 
 -- a file read without a refusal, and its index written again into room enough: not refused, and the very bytes
-module _ (s : List ℕ) (bytes : Bytes s) (w : ℕ) (order labels counts : List ℕ) (n k : ℕ) (O L C : List ℕ)
-    (given : outcome (Opened.Index n k) O L C ≡ readOf s w order labels counts) where
+module _ (s : List ℕ) (bytes : Bytes s) (w : ℕ) (order₁ labels₁ counts₁ : List ℕ) (n k : ℕ) (order₂ labels₂ counts₂ : List ℕ)
+    (given : outcome (Opened.Index n k) order₂ labels₂ counts₂ ≡ readOf s w order₁ labels₁ counts₁) where
   pub read-then-written : (out : List ℕ) (start : ℕ) (written : Written) (room : List ℕ)
-      → wrote written room ≡ writeOf n k w O L C out start → start + length s ≤ length out
+      → wrote written room ≡ writeOf n k w order₂ labels₂ counts₂ out start → start + length s ≤ length out
       → (written ≡ Written.Bytes (length s)) × (take (length s) (drop start room) ≡ s)
   read-then-written out start written room e enough =
-      let fits : Fit n k w O L C = read-takes s w order labels counts n k O L C given in
-      let again : fileOf n k w O L C ≡ s = read-then-write s w order labels counts n k O L C given bytes in
-      let long : length (fileOf n k w O L C) ≡ length s = ap (λ (l : List ℕ). length l) again in
-      let size : length (fileOf n k w O L C) ≡ fileSize n (sum C) = file-bytes n k w O L C fits in
-      let same : fileSize n (sum C) ≡ length s = sym size ∙ long in
+      let fits : Fit n k w order₂ labels₂ counts₂ = read-takes s w order₁ labels₁ counts₁ n k order₂ labels₂ counts₂ given in
+      let again : fileOf n k w order₂ labels₂ counts₂ ≡ s = read-then-write s w order₁ labels₁ counts₁ n k order₂ labels₂ counts₂ given bytes in
+      let long : length (fileOf n k w order₂ labels₂ counts₂) ≡ length s = ap (λ (l : List ℕ). length l) again in
+      let size : length (fileOf n k w order₂ labels₂ counts₂) ≡ fileSize n (sum counts₂) = file-bytes n k w order₂ labels₂ counts₂ fits in
+      let same : fileSize n (sum counts₂) ≡ length s = sym size ∙ long in
       let took : written ≡ Written.Bytes (length s) =
-      write-taken n k w O L C out start written room e fits (omega arith) ∙ ap Written.Bytes same in (
+      write-taken n k w order₂ labels₂ counts₂ out start written room e fits (omega arith) ∙ ap Written.Bytes same in (
         took,
-        read-written s w order labels counts n k O L C given bytes out start (length s) room
+        read-written s w order₁ labels₁ counts₁ n k order₂ labels₂ counts₂ given bytes out start (length s) room
             (ap (λ (a : Written). wrote a room) (sym took) ∙ e),
       )

@@ -17,11 +17,11 @@ use Rattle.theory.specs.Walk.{walks}
 use Rattle.theory.specs.Plain.{ones, joined}
 use Rattle.rows.specs.Entry.{rankOf, decode}
 use Rattle.rows.specs.Rooms.{rowAt}
-use Rattle.rows.specs.Pair.{pairOf, told, countOf}
+use Rattle.rows.specs.Pair.{pairOf, told, saidOf}
 
 -- the answer for (s,t): a number of joins, or none
 abbrev pub askedOf : ℕ → ℕ → List ℕ → List ℕ → ℕ → ℕ → Count
-askedOf n w labels counts s t = countOf (pairOf n w labels counts s t)
+askedOf n w labels counts s t = saidOf (pairOf n w labels counts s t)
 
 -- a chain from a to b of the links handed in, with this number of links
 abbrev pub Joins : List ℕ → List ℕ → ℕ → ℕ → ℕ → Type 0

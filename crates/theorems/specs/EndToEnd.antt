@@ -1,18 +1,14 @@
 -- From the links handed in to an answer asked of a file read back: what a reader may hold against demands 2 and 3.
-use Prim.Native.Nat.{ℕ, _+_, _*_, _/_}
+use Prim.Native.Nat.{ℕ}
 use mathlib.Core.Path.{_≡_}
 use mathlib.Core.List.{List}
 use lib.ListN.{replicate}
 use Rattle.basics.specs.Places.{sum}
 use Rattle.rows.specs.Pair.{pairOf}
-use Rattle.file.specs.Layout.{stored, Same}
+use Rattle.file.specs.Layout.{fileSize, stored, Same}
 use Rattle.file.specs.declared.Opened.{Opened}
 use Rattle.file.specs.declared.Written.{Written}
 use Rattle.theorems.specs.Demands.{Demands}
-
--- With E entries the file has 4 + (21n + 24E)/8 bytes, the quotient rounded up
-abbrev pub fileSize : ℕ → ℕ → ℕ
-fileSize n entries = 4 + (21 * n + 24 * entries + 7) / 8
 
 -- An unrefused build of `entries` entries left labels and counts; these were written and read back: what the writer and the
 -- reader then gave, and what order₂, labels₂ and counts₂ hold.

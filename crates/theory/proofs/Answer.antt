@@ -2,18 +2,19 @@
 -- the stop. A hub that one of the two rows lacks is covered by a hub of lower rank, at a sum no greater: so the lowest
 -- rank of the least sum is in both rows.
 use Prim.Native.Nat.{ℕ, zero, suc, _+_, _≤_, _<_, min}
-use mathlib.Core.Path.{_≡_, refl, sym, ap, subst, _∙_}
+use mathlib.Core.Path.{_≡_, refl, sym, ap, subst}
 use mathlib.Core.Logic.{_⊎_, inl, inr}
 use mathlib.Core.Bool.{cond}
 use mathlib.Core.List.{[], _∷_, List·Memᴰ·head, List·Memᴰ·tail, List·Memᴰ·cases-cons, List·Memᴰ·not-nil}
 use native.Mathlib.Decide.{ℕ-discrete}
 use native.Mathlib.Omega.{arith}
 use lib.Dec.{eqb}
-use borrow.Author.Tests.{eq-eqb, ne-eqb, lt-ltb, le-ltb}
+use borrow.Author.Tests.{eq-eqb, ne-eqb}
 use Rattle.basics.proofs.Laws.{by-cases, cases, lt-or-ge, cond-true, cond-false, least-most, least-le, least-ge, least-found}
-use Rattle.theory.specs.Chains.{joins, none, Least}
+use Rattle.theory.specs.Chains.{Least}
 use Rattle.theory.specs.Distance.{said}
 use Rattle.theory.specs.Rows.{Row, In, Shared, Metric, at, answer, hubs, ruleRow}
+use Rattle.theory.proofs.DistLeast.{said-least}
 use Rattle.theory.proofs.Rule.{rule-lt, in-row}
 
 -- ---- what a row has for a rank
@@ -80,37 +81,7 @@ answer-least B n x y low m s =
       s .whole,
     )
 
--- ---- said
-
-pub said-joins : (B m : ℕ) → m < B → said B m ≡ joins m
-unfolding said
-said-joins B m h = cond-true (joins m) none (lt-ltb m B h)
-
-pub said-none : (B m : ℕ) → B ≤ m → said B m ≡ none
-unfolding said
-said-none B m h = cond-false (joins m) none (le-ltb m B h)
-
--- what says m joins is m
-pub said-is : (B a m : ℕ) → said B a ≡ joins m → (a ≡ m) × (a < B)
-said-is B a m e =
-    lt-or-ge a B
-    (λ h.
-    let same : joins a ≡ joins m = sym (said-joins B a h) ∙ e in
-    (cc, h))
-    (λ h.
-    let other : none ≡ joins m = sym (said-none B a h) ∙ e in
-    let z : _≡_ {A = ℕ} 0 1 = cc in
-    absurd (omega arith))
-
--- a number is the least of Q, or none is, by what it is below and not below B
-pub said-least : (Q : ℕ → Type 0) (B m : ℕ) → (m < B → Q m) → ((j : ℕ) → Q j → m ≤ j) → ((j : ℕ) → Q j → m < B) → Least Q (said B m)
-unfolding Least
-said-least Q B m has low reach =
-    lt-or-ge m B
-    (λ h. subst (Least Q) (sym (said-joins B m h)) (has h, low))
-    (λ h. subst (Least Q) (sym (said-none B m h)) (λ j q. omega (arith, reach j q)))
-
--- the answer is the least sum of joins over ranks found in both rows, none if no rank is shared
+-- it is the least sum of joins over ranks found in both rows, none if no rank is shared
 pub literal : (B n : ℕ) (x y : Row) → ((r m : ℕ) → In r m x → r < n) → ((m : ℕ) → Shared x y m → m < B)
     → Least (Shared x y) (said B (answer B n x y))
 literal B n x y low small =
@@ -150,49 +121,54 @@ module _ {B n : ℕ} {d : ℕ → ℕ → ℕ} (h : ℕ → ℕ) (𝓜 : Metric 
   -- a hub below the stop is in the row, or one of lower rank lies on a shortest way to it
   covered : (k v r : ℕ) → k ≤ n → v < n → r < k
       → (at B (ruleRow B d h k v) r ≤ d (h r) v)
-      ⊎ ((B ≤ d (h r) v) ⊎ ((w : ℕ) × (w < r) × (d (h r) (h w) + d (h w) v ≤ d (h r) v)))
-  covered k v r l q g =
+      ⊎ ((B ≤ d (h r) v) ⊎ ((q : ℕ) × (q < r) × (d (h r) (h q) + d (h q) v ≤ d (h r) v)))
+  covered k v r l f g =
       lt-or-ge (d (h r) v) (hubs B d h r (h r) v)
-      (λ less. inl (at-le B (ruleRow B d h k v) (in-row h 𝓜 inside k v l q .1 (g, rule-lt h 𝓜 inside r v (omega arith) q .1 less, refl))))
+      (λ less. inl (at-le B (ruleRow B d h k v) (in-row h 𝓜 inside k v l f .1 (g, rule-lt h 𝓜 inside r v (omega arith) f .1 less, refl))))
       (λ more.
       inr (lt-or-ge (hubs B d h r (h r) v) B
       (λ some.
-      let (w, p, e) = hubs-found B d h r (h r) v some in
-      inr (w, p, omega arith))
+      let (q, p, e) = hubs-found B d h r (h r) v some in
+      inr (q, p, omega arith))
       (λ far. inl (omega arith))))
 
   -- no hub below the stop gives a lesser sum than the answer; j bounds the rank
   answer-most : (k s t : ℕ) → k ≤ n → s < n → t < n → (j r : ℕ) → r < j → r < k
       → answer B n (ruleRow B d h k s) (ruleRow B d h k t) ≤ d s (h r) + d (h r) t
-  answer-most k s t l p q zero r less g = absurd (omega arith)
-  answer-most k s t l p q (suc j) r less g =
+  answer-most k s t l first second zero r less g = absurd (omega arith)
+  answer-most k s t l first second (suc j) r less g =
       let f : h r < n = inside r (omega arith) in
-      let turn : d (h r) s ≡ d s (h r) = 𝓜 .swap (h r) s f p in
+      let turn : d (h r) s ≡ d s (h r) = 𝓜 .swap (h r) s f first in
       let x : Row = ruleRow B d h k s in
       let y : Row = ruleRow B d h k t in
       let most : answer B n x y ≤ B = answer-cap B n x y in
-      cases (covered k s r l p g)
+      cases (covered k s r l first g)
       (λ a.
-      cases (covered k t r l q g)
+      cases (covered k t r l second g)
       (λ b. omega (arith, answer-le B n x y r (omega arith)))
       (λ b.
       cases b (λ far. omega arith)
       (λ z.
-      let (w, i, e) = z in
-      let hub : h w < n = inside w (omega arith) in
-      omega (arith, answer-most k s t l p q j w (omega arith) (omega arith), 𝓜 .via s (h r) (h w) p f hub))))
+      let (q, i, e) = z in
+      let hub : h q < n = inside q (omega arith) in
+      omega (arith, answer-most k s t l first second j q (omega arith) (omega arith), 𝓜 .via s (h r) (h q) first f hub))))
       (λ a.
       cases a (λ far. omega arith)
       (λ z.
-      let (w, i, e) = z in
-      let hub : h w < n = inside w (omega arith) in
+      let (q, i, e) = z in
+      let hub : h q < n = inside q (omega arith) in
       omega (
         arith,
-        answer-most k s t l p q j w (omega arith) (omega arith),
-        𝓜 .swap (h w) s hub p,
-        𝓜 .via (h w) (h r) t hub f q,
-        𝓜 .swap (h w) (h r) hub f,
+        answer-most k s t l first second j q (omega arith) (omega arith),
+        𝓜 .swap (h q) s hub first,
+        𝓜 .via (h q) (h r) t hub f second,
+        𝓜 .swap (h q) (h r) hub f,
       )))
+
+  -- so none does
+  pub answer-hub : (k s t r : ℕ) → k ≤ n → s < n → t < n → r < k
+      → answer B n (ruleRow B d h k s) (ruleRow B d h k t) ≤ d s (h r) + d (h r) t
+  answer-hub k s t r l p q g = answer-most k s t l p q (suc r) r (omega arith) g
 
   -- the answer of two rows by the rule is the least sum over the hubs below the stop
   pub answer-hubs : (k s t : ℕ) → k ≤ n → s < n → t < n
@@ -202,7 +178,7 @@ module _ {B n : ℕ} {d : ℕ → ℕ → ℕ} (h : ℕ → ℕ) (𝓜 : Metric 
       let y : Row = ruleRow B d h k t in
       let down : answer B n x y ≤ hubs B d h k s t =
       hubs-ge B d h k s t (answer B n x y) (answer-cap B n x y)
-      (λ r g. answer-most k s t l p q (suc r) r (omega arith) g) in
+      (λ r. answer-hub k s t r l p q) in
       let up : hubs B d h k s t ≤ answer B n x y =
       answer-ge B n x y (hubs B d h k s t) (hubs-cap B d h k s t)
       (λ r g.

@@ -1,6 +1,6 @@
 -- Demand 3 over any penalties: the answer is the least sum of a chain through one of the first k hubs; it is never below
--- the distance and exceeds it by at most twice the way to any of these hubs; at k = n it is the distance; and no entry is
--- spare. All but the last read the answer as the least sum over hubs.
+-- the distance and exceeds it by at most twice the way to any of these hubs; at k = n it is the distance. That no entry is
+-- spare stands in Spare.
 use Prim.Native.Nat.{ℕ, _+_, _*_, _≤_, _<_}
 use mathlib.Core.Path.{_≡_, sym, subst}
 use native.Mathlib.Omega.{arith}
@@ -10,7 +10,8 @@ use Rattle.theory.specs.Chains.{Chain, Through, Least}
 use Rattle.theory.specs.Distance.{said}
 use Rattle.theory.specs.Rows.{Metric, answer, hubs, ruleRow}
 use Rattle.theory.proofs.Rule.{never-less}
-use Rattle.theory.proofs.Answer.{answer-cap, answer-hubs, hubs-le, hubs-found, said-least}
+use Rattle.theory.proofs.DistLeast.{said-least}
+use Rattle.theory.proofs.Answer.{answer-cap, answer-hub, answer-hubs, hubs-le, hubs-found}
 
 -- d is the least sum of a chain between two frames below n, B where there is none
 pub record Shortest (K : ℕ → ℕ → ℕ → Type 0) (B n : ℕ) (d : ℕ → ℕ → ℕ) : Type 0 where
@@ -67,24 +68,19 @@ module _ {B n : ℕ} {d : ℕ → ℕ → ℕ} (h : ℕ → ℕ) (𝓜 : Metric 
   pub never-below : (k s t : ℕ) → k ≤ n → s < n → t < n → d s t ≤ answer B n (ruleRow B d h k s) (ruleRow B d h k t)
   never-below k s t l p q = omega (arith, answer-hubs h 𝓜 inside k s t l p q, never-less h 𝓜 inside k s t l p q)
 
-  -- at most the way over a used hub
-  by-hub : (k s t r : ℕ) → k ≤ n → s < n → t < n → r < k
-      → answer B n (ruleRow B d h k s) (ruleRow B d h k t) ≤ d s (h r) + d (h r) t
-  by-hub k s t r l p q g = omega (arith, answer-hubs h 𝓜 inside k s t l p q, hubs-le B d h k s t r g)
-
   -- over the distance by at most twice the way from the first frame to a used hub
   pub near-first : (k s t r : ℕ) → k ≤ n → s < n → t < n → r < k
       → answer B n (ruleRow B d h k s) (ruleRow B d h k t) ≤ d s t + 2 * d s (h r)
   near-first k s t r l p q g =
       let f : h r < n = inside r (omega arith) in
-      omega (arith, by-hub k s t r l p q g, 𝓜 .via (h r) s t f p q, 𝓜 .swap (h r) s f p)
+      omega (arith, answer-hub h 𝓜 inside k s t r l p q g, 𝓜 .via (h r) s t f p q, 𝓜 .swap (h r) s f p)
 
   -- and from the second frame
   pub near-second : (k s t r : ℕ) → k ≤ n → s < n → t < n → r < k
       → answer B n (ruleRow B d h k s) (ruleRow B d h k t) ≤ d s t + 2 * d t (h r)
   near-second k s t r l p q g =
       let f : h r < n = inside r (omega arith) in
-      omega (arith, by-hub k s t r l p q g, 𝓜 .via s t (h r) p q f, 𝓜 .swap (h r) t f q)
+      omega (arith, answer-hub h 𝓜 inside k s t r l p q g, 𝓜 .via s t (h r) p q f, 𝓜 .swap (h r) t f q)
 
   -- so to the nearest of the used hubs, from either frame
   pub near : (k s t : ℕ) → k ≤ n → s < n → t < n
@@ -107,7 +103,7 @@ module _ {B n : ℕ} {d : ℕ → ℕ → ℕ} (h : ℕ → ℕ) (𝓜 : Metric 
   pub hub-count : (k r t : ℕ) → k ≤ n → r < k → t < n → answer B n (ruleRow B d h k (h r)) (ruleRow B d h k t) ≡ d (h r) t
   hub-count k r t l g q =
       let f : h r < n = inside r (omega arith) in
-      omega (arith, by-hub k (h r) t r l f q g, 𝓜 .self (h r) f, never-below k (h r) t l f q)
+      omega (arith, answer-hub h 𝓜 inside k (h r) t r l f q g, 𝓜 .self (h r) f, never-below k (h r) t l f q)
 
   -- with every frame a hub, every pair does
   pub true-count : ((v : ℕ) → v < n → (r : ℕ) × (r < n) × (h r ≡ v)) → (s t : ℕ) → s < n → t < n

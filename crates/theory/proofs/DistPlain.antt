@@ -7,7 +7,7 @@ use mathlib.Core.List.{List}
 use native.Mathlib.Omega.{arith}
 use lib.ListN.{length}
 use Rattle.basics.specs.Places.{some, least}
-use Rattle.basics.proofs.Laws.{bcase, cond-true, cond-false, some-found, some-not, some-one, least-most, least-le, least-ge}
+use Rattle.basics.proofs.Laws.{bcase, cond-true, cond-false, cond-ge, some-found, some-not, some-one, least-most, least-le, least-ge}
 use Rattle.theory.specs.Links.{Link, Block, holdsAt}
 use Rattle.theory.specs.Chains.{Chain, stay, step, Least, linkCount, ChainOf, Through}
 use Rattle.theory.specs.Distance.{far, weight, dist, said}
@@ -24,12 +24,7 @@ least-ones B k marked h =
     bcase (some marked 0 k)
     (λ t.
     let (i, l, p, m) = some-found marked 0 k t in
-    let low : 1 ≤ least B k f =
-    least-ge B k f 1 h
-    (λ j q.
-    bcase (marked j)
-    (λ e. omega (arith, cond-true {A = ℕ} 1 B e))
-    (λ e. omega (arith, cond-false {A = ℕ} 1 B e))) in
+    let low : 1 ≤ least B k f = least-ge B k f 1 h (λ j q. cond-ge (marked j) 1 (omega arith) h) in
     omega (arith, cond-true {A = ℕ} 1 B t, cond-true {A = ℕ} 1 B m, least-le B k f i (omega arith)))
     (λ t.
     let low : B ≤ least B k f =

@@ -1,14 +1,14 @@
 -- The weight of a pair of frames: the least penalty of a link between them. In a block it is at least 1, at most M where
 -- it is below B, and the same both ways, for a list holds only frames whose own list holds this one.
-use Prim.Native.Nat.{ℕ, zero, suc, _+_, _-_, _≤_, _<_}
-use mathlib.Core.Path.{_≡_, refl, ap}
+use Prim.Native.Nat.{ℕ, _+_, _≤_, _<_}
+use mathlib.Core.Path.{_≡_, refl}
 use mathlib.Core.Bool.{true, cond, _&&_}
 use mathlib.Core.List.{List}
 use native.Mathlib.Omega.{arith}
 use lib.ListN.{length, getD}
 use lib.Dec.{leb, ltb, eqb}
 use borrow.Author.Tests.{leb-true, ltb-true, eqb-true, le-leb, lt-ltb, eq-eqb}
-use Rattle.basics.proofs.Laws.{bcase, lt-or-ge, both-true, both, cond-true, cond-false, least-most, least-le, least-ge, least-found}
+use Rattle.basics.proofs.Laws.{bcase, lt-or-ge, both-true, both, cond-true, cond-false, cond-ge, never-falls, least-most, least-le, least-ge, least-found}
 use Rattle.theory.specs.Links.{Block, Link, inList, holdsAt}
 use Rattle.theory.specs.Distance.{weight}
 
@@ -52,12 +52,8 @@ module _ (B : ℕ) (S L : List ℕ) (P : ℕ → ℕ) where
 
 module _ {n M : ℕ} {S L : List ℕ} {P : ℕ → ℕ} (block : Block n M S L P) where
   -- starts never pass the last
-  starts-upto : (j v : ℕ) → v + j ≡ n → getD S v 0 ≤ length L
-  starts-upto zero v e = omega (arith, block .last, ap (λ (k : ℕ). getD S k 0) (let q : v ≡ n = omega arith in q))
-  starts-upto (suc j) v e = omega (arith, block .rise v (omega arith), starts-upto j (v + 1) (omega arith))
-
   pub start-upto : (v : ℕ) → v ≤ n → getD S v 0 ≤ length L
-  start-upto v h = starts-upto (n - v) v (omega arith)
+  start-upto v h = omega (arith, block .last, never-falls (λ u. getD S u 0) n (block .rise) v n h (omega arith))
 
   pub link-place : {u v w : ℕ} → u < n → (l : Link S L P u v w) → l .at < length L
   link-place {u} h l = omega (arith, l .upto, start-upto (u + 1) (omega arith))
@@ -79,11 +75,7 @@ module _ {n M : ℕ} {S L : List ℕ} {P : ℕ → ℕ} (block : Block n M S L P
   pub weight-one : (B u v : ℕ) → 1 ≤ B → 1 ≤ weight B S L P u v
   unfolding weight
   weight-one B u v h =
-      least-ge B (length L) _ 1 h
-      (λ i l.
-      bcase (holdsAt S L u v i)
-      (λ t. omega (arith, cond-true (P i) B t, block .least i l))
-      (λ t. omega (arith, cond-false (P i) B t)))
+      least-ge B (length L) _ 1 h (λ i l. cond-ge (holdsAt S L u v i) 1 (block .least i l) h)
 
   pub weight-upto : (B u v : ℕ) → u < n → weight B S L P u v < B → weight B S L P u v ≤ M
   weight-upto B u v p h = link-upto p (weight-link B S L P u v h)

@@ -9,13 +9,14 @@ use native.Mathlib.Nat.{mul-le-mul-left, mul-suc}
 use native.Mathlib.Decide.{ℕ-discrete}
 use native.Mathlib.Omega.{arith}
 use lib.Dec.{ltb}
-use borrow.Author.Tests.{ltb-true, lt-ltb, le-ltb}
+use borrow.Author.Tests.{le-ltb}
 use Rattle.basics.specs.Places.{count}
-use Rattle.basics.proofs.Laws.{by-cases, lt-or-ge, count-more, count-gap}
+use Rattle.basics.proofs.Laws.{by-cases, count-gap, count-lower}
 use Rattle.theory.specs.Links.{Block, Link}
 use Rattle.theory.specs.Chains.{Chain, stay, step, Least}
 use Rattle.theory.specs.Distance.{far, weight, dist, said}
 use Rattle.theory.specs.Rows.{Metric}
+use Rattle.theory.proofs.DistLeast.{said-least}
 use Rattle.theory.proofs.DistVia.{chain-join, chain-last, via-most, via-self, via-weight, via-triangle, via-swap, via-chain}
 use Rattle.theory.proofs.DistWeight.{link-inside, link-back, link-upto, weight-link, link-weight, weight-one, weight-upto, weight-swap}
 
@@ -102,7 +103,7 @@ module _ {n M : ℕ} {S L : List ℕ} {P : ℕ → ℕ} (block : Block n M S L P
   dist-apart a b h e =
       by-cases (ℕ-discrete a b) (λ q. q)
       (λ q.
-      let (u, p, f, w, l) = dist-last a b h q (omega (arith, far-one M n)) in
+      let (u, p, sum, light, near) = dist-last a b h q (omega (arith, far-one M n)) in
       absurd (omega arith))
 
   -- ---- how far
@@ -125,9 +126,7 @@ module _ {n M : ℕ} {S L : List ℕ} {P : ℕ → ℕ} (block : Block n M S L P
       let dv : ℕ = dist M n S L P a v in
       let rest : du ≤ M * count (nearer a du) n = dist-count a h j u p (omega arith) (omega arith) in
       let more : suc (count (nearer a du) n) ≤ count (nearer a dv) n =
-      count-more (nearer a du) (nearer a dv) n u
-      (λ i l t. lt-ltb (dist M n S L P a i) dv (omega (arith, ltb-true (dist M n S L P a i) du t)))
-      p (le-ltb du du (omega arith)) (lt-ltb du dv near) in
+      count-lower (dist M n S L P a) n u du dv p (omega arith) near in
       omega (arith, mul-le-mul-left M more, weight-upto block (far M n) u v p light, mul-suc M (count (nearer a du) n)))
 
   -- a distance below infinity is at most M times the other frames
@@ -151,11 +150,9 @@ module _ {n M : ℕ} {S L : List ℕ} {P : ℕ → ℕ} (block : Block n M S L P
 
   -- d(a,b) is the least sum of a chain from a to b, and none exactly if there is no chain
   pub dist-is : (a b : ℕ) → a < n → Least (Chain (Link S L P) a b) (said (far M n) (dist M n S L P a b))
-  unfolding Least said
   dist-is a b h =
-      lt-or-ge (dist M n S L P a b) (far M n)
-      (λ l. rw (lt-ltb _ _ l) (dist-chain a b l, λ j c. dist-least h c))
-      (λ g. rw (le-ltb _ _ g) (λ j c. omega (arith, dist-reach h c)))
+      said-least (Chain (Link S L P) a b) (far M n) (dist M n S L P a b) (dist-chain a b) (λ j c. dist-least h c)
+      (λ j c. dist-reach h c)
 
   pub dist-twice : (a b c e : ℕ) → a < n → b < n → c < n → e < n → dist M n S L P a b < far M n
       → dist M n S L P c e < far M n → dist M n S L P a b + dist M n S L P c e < far M n

@@ -1,24 +1,21 @@
 -- Demand 3 for a block of links with penalties: what the distance owes the rows and the walk, and the theorems over any
 -- such distance taken for this one. The plain index is the case of all 1.
-use Prim.Native.Nat.{ℕ, suc, _+_, _-_, _*_, _≤_, _<_}
-use mathlib.Core.Path.{_≡_, _∙_}
+use Prim.Native.Nat.{ℕ, _+_, _-_, _*_, _≤_, _<_}
+use mathlib.Core.Path.{_≡_}
 use mathlib.Core.Logic.{_↔_}
 use mathlib.Core.List.{List, _∷_, _++_}
-use native.Mathlib.Omega.{arith}
 use Rattle.basics.specs.Places.{least}
 use Rattle.theory.specs.Links.{Link, Block, Order, hubOf}
 use Rattle.theory.specs.Chains.{Chain, Through, Least}
 use Rattle.theory.specs.Distance.{far, weight, dist, said}
-use Rattle.theory.specs.Rows.{Row, In, Rule, answer, keep, ruleRow, instead}
-use Rattle.theory.specs.Walk.{Met}
+use Rattle.theory.specs.Rows.{Row, In, Rule, answer, ruleRow, instead}
 use Rattle.theory.proofs.Ranks.{ranks-all}
 use Rattle.theory.proofs.DistWeight.{weight-one}
 use Rattle.theory.proofs.Distance.{far-one, dist-chain, dist-least, dist-reach, dist-step, dist-last, dist-bound, dist-metric}
 use Rattle.theory.proofs.Rule.{in-row, own-entry, no-higher, joins-most}
-use Rattle.theory.proofs.Answer.{answer-hubs}
 use Rattle.theory.proofs.Demand.{Shortest, fewest, never-below, near, true-count}
 use Rattle.theory.proofs.Spare.{spare}
-use Rattle.theory.proofs.WalkRule.{Steps, met-rule}
+use Rattle.theory.proofs.WalkRule.{Steps}
 
 -- the row of v by the row rule over penalties up to M, at stop k
 abbrev pub sumRow : ℕ → ℕ → List ℕ → List ℕ → (ℕ → ℕ) → List ℕ → ℕ → ℕ → Row
@@ -92,11 +89,3 @@ module _ {n M : ℕ} {S L : List ℕ} {P : ℕ → ℕ} (block : Block n M S L P
     -- a row's sums are at most M for each other frame
     pub sums-upto : (k v r m : ℕ) → k ≤ n → v < n → In r m (sumRow M n S L P O k v) → m ≤ M * (n - 1)
     sums-upto = joins-most (hubOf O) (dist-metric block) (order .inside) (M * (n - 1)) (dist-bound block)
-
-    -- a finished walk over the rows at r gives the rows at r + 1
-    pub sums-walk : (r : ℕ) → r < n → (A t : ℕ → ℕ) → ((u : ℕ) → u < n → A u ≡ sumAnswer M n S L P O r (hubOf O r) u)
-        → Met (far M n) n (weight (far M n) S L P) A (hubOf O r) t
-        → (v : ℕ) → v < n → keep r (t v) (A v) (sumRow M n S L P O r v) ≡ sumRow M n S L P O (suc r) v
-    sums-walk r g A t rows met =
-        met-rule (hubOf O) (dist-metric block) (order .inside) dist-steps r g A t
-        (λ u p. rows u p ∙ answer-hubs (hubOf O) (dist-metric block) (order .inside) r (hubOf O r) u (omega arith) (order .inside r g) p) met

@@ -1,7 +1,7 @@
 -- The plain index, every join counted as 1, in the paper's own words: demand 3 in fewest joins, what a row holds, and that
 -- the walks level by level make the rows of the rule.
 use Prim.Native.Nat.{ℕ, zero, suc, _+_, _*_, _≤_, _<_}
-use mathlib.Core.Path.{_≡_, refl, sym, subst, _∙_}
+use mathlib.Core.Path.{_≡_, refl, sym, subst}
 use mathlib.Core.Logic.{_↔_}
 use mathlib.Core.List.{List, [], _∷_, _++_}
 use native.Mathlib.Omega.{arith}
@@ -10,16 +10,16 @@ use Rattle.basics.specs.Places.{least}
 use Rattle.theory.specs.Links.{Link, Block, Order, hubOf}
 use Rattle.theory.specs.Chains.{Least, ChainOf, Through}
 use Rattle.theory.specs.Distance.{far, said}
-use Rattle.theory.specs.Rows.{Row, In, Shared, Rule, Metric, answer, keep, ruleRow, instead}
-use Rattle.theory.specs.Walk.{Met, walkRow, walks}
+use Rattle.theory.specs.Rows.{Row, In, Shared, Rule, Metric, answer, ruleRow, instead}
+use Rattle.theory.specs.Walk.{walkRow, walks}
 use Rattle.theory.specs.Plain.{ones, joined, joinsTo, rowBy, answerBy}
 use Rattle.theory.proofs.DistLeast.{least-same}
 use Rattle.theory.proofs.DistPlain.{plain-weight, counted, uncounted, other-chains, joins-is}
 use Rattle.theory.proofs.Distance.{dist-metric}
 use Rattle.theory.proofs.Rule.{Rising, rankAt, joinsAt, place-in, row-rising}
-use Rattle.theory.proofs.Answer.{literal, answer-hubs}
+use Rattle.theory.proofs.Answer.{literal}
 use Rattle.theory.proofs.Levels.{oneEach}
-use Rattle.theory.proofs.WalkRule.{Steps, met-rule, walk-rule, walks-rule}
+use Rattle.theory.proofs.WalkRule.{Steps, walk-rule, walks-rule}
 use Rattle.theory.proofs.Penalties.{sumAnswer, dist-steps, sums-fewest, sums-never-below, sums-near, sums-true, sums-spare, sums-in-row, sums-own, sums-no-higher, sums-upto}
 
 -- ---- rows of any block, sound or not
@@ -145,15 +145,6 @@ module _ {n : ℕ} {S L : List ℕ} (block : Block n 1 S L ones) where
         → walkRow (far 1 n) n (joined S L) R r (hubOf O r) v ≡ rowBy n S L O (suc r) v
     unfolding rowBy
     walk-out = walk-rule (joined S L) (hubOf O) plain-metric (order .inside) plain-steps (far-room n)
-
-    -- any finished walk does, whatever the order it was made in
-    pub met-out : (r : ℕ) → r < n → (A t : ℕ → ℕ) → ((u : ℕ) → u < n → A u ≡ answerBy n S L O r (hubOf O r) u)
-        → Met (far 1 n) n (oneEach (far 1 n) (joined S L)) A (hubOf O r) t
-        → (v : ℕ) → v < n → keep r (t v) (A v) (rowBy n S L O r v) ≡ rowBy n S L O (suc r) v
-    unfolding rowBy
-    met-out r g A t rows met =
-        met-rule (hubOf O) plain-metric (order .inside) plain-steps r g A t
-        (λ u p. rows u p ∙ answer-hubs (hubOf O) plain-metric (order .inside) r (hubOf O r) u (omega arith) (order .inside r g) p) met
 
     -- the walks of all hubs below k, in rank order, from empty rows, make the rows of the rule
     pub plain-walks : (k v : ℕ) → k ≤ n → v < n → walks (far 1 n) n (joined S L) (hubOf O) k v ≡ rowBy n S L O k v

@@ -8,6 +8,7 @@ use mathlib.Core.List.{[], _∷_, _++_, List·Memᴰ·head, List·Memᴰ·tail, 
 use native.Mathlib.Decide.{ℕ-discrete}
 use native.Mathlib.Omega.{arith}
 use lib.ListN.{length, getD, length-append, List·getD-append}
+use lib.Seq.{getD-at}
 use borrow.Author.Tests.{lt-ltb, le-ltb}
 use Rattle.basics.specs.Places.{least}
 use Rattle.basics.proofs.Laws.{by-cases, cases, lt-or-ge, cond-true, cond-false, least-most, least-le, least-ge}
@@ -72,15 +73,6 @@ in-place (e ∷ x) {r} {m} mem =
     let (i, h, p, q) = in-place x later in
     (suc i, omega arith, p, q))
 
-pub snoc-front : (x : Row) (e : ℕ × ℕ) (i : ℕ) → i < length x → getD (x ++ (e ∷ [])) i (0, 0) ≡ getD x i (0, 0)
-snoc-front x e i h = List·getD-append x (e ∷ []) (0, 0) i h
-
-pub snoc-last : (x : Row) (e : ℕ × ℕ) (i : ℕ) → i ≡ length x → getD (x ++ (e ∷ [])) i (0, 0) ≡ e
-snoc-last [] e zero h = refl
-snoc-last [] e (suc i) h = absurd (omega arith)
-snoc-last (y ∷ x) e zero h = absurd (omega arith)
-snoc-last (y ∷ x) e (suc i) h = snoc-last x e i (omega arith)
-
 pub rising-snoc : (r m : ℕ) (x : Row) → Rising r x → Rising (suc r) (x ++ ((r, m) ∷ []))
 rising-snoc r m x s = record { below = below; rise = rise }
   where
@@ -88,10 +80,10 @@ rising-snoc r m x s = record { below = below; rise = rise }
     long = length-append x ((r, m) ∷ [])
 
     front : (i : ℕ) → i < length x → rankAt (x ++ ((r, m) ∷ [])) i ≡ rankAt x i
-    front i h = ap (λ (z : ℕ × ℕ). z .0) (snoc-front x (r, m) i h)
+    front i h = ap (λ (z : ℕ × ℕ). z .0) (List·getD-append x ((r, m) ∷ []) (0, 0) i h)
 
     last : (i : ℕ) → i ≡ length x → rankAt (x ++ ((r, m) ∷ [])) i ≡ r
-    last i h = ap (λ (z : ℕ × ℕ). z .0) (snoc-last x (r, m) i h)
+    last i h = ap (λ (z : ℕ × ℕ). z .0) (getD-at x (r, m) [] (0, 0) i (sym h))
 
     below : (i : ℕ) → i < length (x ++ ((r, m) ∷ [])) → rankAt (x ++ ((r, m) ∷ [])) i < suc r
     below i h =
@@ -131,26 +123,26 @@ module _ {B n : ℕ} {d : ℕ → ℕ → ℕ} (h : ℕ → ℕ) (𝓜 : Metric 
   unfolding hubs
   never-less k s t l p q =
       least-ge B k _ (d s t) (𝓜 .cap s t p q)
-      (λ w g. 𝓜 .via s (h w) t p (inside w (omega arith)) q)
+      (λ r g. 𝓜 .via s (h r) t p (inside r (omega arith)) q)
 
   -- the rule in the paper's words, as the comparison that makes the rows
   pub rule-lt : (r v : ℕ) → r < n → v < n → Rule B d h r v ↔ (d (h r) v < hubs B d h r (h r) v)
   unfolding hubs
-  rule-lt r v p q = (there, back)
+  rule-lt r v p f = (there, back)
     where
-      there : Rule B d h r v → d (h r) v < least B r (λ w. d (h r) (h w) + d (h w) v)
+      there : Rule B d h r v → d (h r) v < least B r (λ q. d (h r) (h q) + d (h q) v)
       there rule =
           least-ge B r _ (suc (d (h r) v)) (rule .reach)
-          (λ w l.
-          let g : d (h r) v ≤ d (h r) (h w) + d (h w) v = 𝓜 .via (h r) (h w) v (inside r p) (inside w (omega arith)) q in
-          let a : d (h r) (h w) + d (h w) v ≡ d (h r) v → ⊥ = rule .alone w l in
+          (λ q l.
+          let g : d (h r) v ≤ d (h r) (h q) + d (h q) v = 𝓜 .via (h r) (h q) v (inside r p) (inside q (omega arith)) f in
+          let a : d (h r) (h q) + d (h q) v ≡ d (h r) v → ⊥ = rule .alone q l in
           omega arith)
 
-      back : d (h r) v < least B r (λ w. d (h r) (h w) + d (h w) v) → Rule B d h r v
+      back : d (h r) v < least B r (λ q. d (h r) (h q) + d (h q) v) → Rule B d h r v
       back l =
           record {
-            reach = omega (arith, least-most B r (λ w. d (h r) (h w) + d (h w) v));
-            alone = λ w g e. omega (arith, least-le B r (λ z. d (h r) (h z) + d (h z) v) w g);
+            reach = omega (arith, least-most B r (λ q. d (h r) (h q) + d (h q) v));
+            alone = λ q g e. omega (arith, least-le B r (λ z. d (h r) (h z) + d (h z) v) q g);
           }
 
   row-takes : (k v : ℕ) → k ≤ n → v < n → (r : ℕ) → r < k → Rule B d h r v → In r (d (h r) v) (ruleRow B d h k v)
@@ -194,8 +186,8 @@ module _ {B n : ℕ} {d : ℕ → ℕ → ℕ} (h : ℕ → ℕ) (𝓜 : Metric 
         g,
         record {
           reach = omega arith;
-          alone = λ w p e.
-              once w r p (omega arith) (sym (𝓜 .apart (h r) (h w) f (inside w (omega arith)) (omega arith)));
+          alone = λ q p e.
+              once q r p (omega arith) (sym (𝓜 .apart (h r) (h q) f (inside q (omega arith)) (omega arith)));
         },
         sym z,
       )

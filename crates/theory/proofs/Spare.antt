@@ -12,14 +12,15 @@ use Rattle.basics.proofs.Laws.{by-cases, cases, lt-or-ge, cond-true, cond-false
 use Rattle.theory.specs.Distance.{said}
 use Rattle.theory.specs.Rows.{Row, In, Rule, Metric, at, answer, ruleRow, instead}
 use Rattle.theory.proofs.Rule.{Rising, rankAt, in-place, row-rising, in-row, no-higher}
-use Rattle.theory.proofs.Answer.{at-in, at-rule, answer-ge, said-joins, said-is}
+use Rattle.theory.proofs.Answer.{at-in, at-rule, answer-ge}
+use Rattle.theory.proofs.DistLeast.{said-joins, said-is}
 use Rattle.theory.proofs.Demand.{hub-count}
 
 -- a row with an entry taken out has no more for any rank
-at-drop : (B : ℕ) (xs : Row) (e : ℕ × ℕ) (ys : Row) (w : ℕ) → at B (xs ++ (e ∷ ys)) w ≤ at B (xs ++ ys) w
+at-drop : (B : ℕ) (xs : Row) (e : ℕ × ℕ) (ys : Row) (q : ℕ) → at B (xs ++ (e ∷ ys)) q ≤ at B (xs ++ ys) q
 unfolding at
-at-drop B [] e ys w = omega arith
-at-drop B (x ∷ xs) e ys w = omega (arith, at-drop B xs e ys w)
+at-drop B [] e ys q = omega arith
+at-drop B (x ∷ xs) e ys q = omega (arith, at-drop B xs e ys q)
 
 in-drop : (xs : Row) (e : ℕ × ℕ) (ys : Row) {r m : ℕ} → In r m (xs ++ ys) → In r m (xs ++ (e ∷ ys))
 in-drop xs e ys mem =
@@ -58,27 +59,27 @@ module _ {B n : ℕ} {d : ℕ → ℕ → ℕ} (h : ℕ → ℕ) (𝓜 : Metric 
     (upto : k ≤ n) (frame : v < n) where
   -- without the entry, and with any row of the hub that has no more than its own
   more : (xs : Row) (r m : ℕ) (ys : Row) → ruleRow B d h k v ≡ xs ++ ((r, m) ∷ ys) → (x : Row)
-      → ((w : ℕ) → at B (ruleRow B d h k (h r)) w ≤ at B x w) → r < k → Rule B d h r v
+      → ((q : ℕ) → at B (ruleRow B d h k (h r)) q ≤ at B x q) → r < k → Rule B d h r v
       → d (h r) v < answer B n x (xs ++ ys)
   more xs r m ys split x over g rule =
       let f : h r < n = inside r (omega arith) in
       answer-ge B n x (xs ++ ys) (suc (d (h r) v)) (rule .reach)
-      (λ w l.
-      lt-or-ge (at B (xs ++ ys) w) B
+      (λ q l.
+      lt-or-ge (at B (xs ++ ys) q) B
       (λ a.
-      lt-or-ge (at B x w) B
+      lt-or-ge (at B x q) B
       (λ b.
-      let mine : In w (at B (xs ++ ys) w) (xs ++ ys) = at-in B (xs ++ ys) w a in
-      let (i, other, e) = in-row h 𝓜 inside k v upto frame .0 (subst (In w (at B (xs ++ ys) w)) (sym split) (in-drop xs (r, m) ys mine)) in
-      let low : at B (ruleRow B d h k (h r)) w < B = omega (arith, over w) in
-      let (j, q) = at-rule h 𝓜 inside k (h r) w upto f low in
-      let lower : w ≤ r = no-higher h 𝓜 inside k r w _ upto (omega arith) (at-in B (ruleRow B d h k (h r)) w low) in
-      let apart : w ≡ r → ⊥ =
+      let mine : In q (at B (xs ++ ys) q) (xs ++ ys) = at-in B (xs ++ ys) q a in
+      let (i, other, e) = in-row h 𝓜 inside k v upto frame .0 (subst (In q (at B (xs ++ ys) q)) (sym split) (in-drop xs (r, m) ys mine)) in
+      let low : at B (ruleRow B d h k (h r)) q < B = omega (arith, over q) in
+      let (j, same) = at-rule h 𝓜 inside k (h r) q upto f low in
+      let lower : q ≤ r = no-higher h 𝓜 inside k r q _ upto (omega arith) (at-in B (ruleRow B d h k (h r)) q low) in
+      let apart : q ≡ r → ⊥ =
       λ z.
-      gone xs r m ys (subst (Rising k) split (row-rising B d h k v)) (subst (λ (y : ℕ). In y (at B (xs ++ ys) w) (xs ++ ys)) z mine) in
-      let alone : d (h r) (h w) + d (h w) v ≡ d (h r) v → ⊥ = rule .alone w (omega arith) in
-      let hub : h w < n = inside w l in
-      omega (arith, 𝓜 .via (h r) (h w) v f hub frame, 𝓜 .swap (h r) (h w) f hub, over w))
+      gone xs r m ys (subst (Rising k) split (row-rising B d h k v)) (subst (λ (y : ℕ). In y (at B (xs ++ ys) q) (xs ++ ys)) z mine) in
+      let alone : d (h r) (h q) + d (h q) v ≡ d (h r) v → ⊥ = rule .alone q (omega arith) in
+      let hub : h q < n = inside q l in
+      omega (arith, 𝓜 .via (h r) (h q) v f hub frame, 𝓜 .swap (h r) (h q) f hub, over q))
       (λ b. omega (arith, rule .reach)))
       (λ a. omega (arith, rule .reach)))
 
@@ -92,12 +93,12 @@ module _ {B n : ℕ} {d : ℕ → ℕ → ℕ} (h : ℕ → ℕ) (𝓜 : Metric 
       let (g, rule, e) = in-row h 𝓜 inside k v upto frame .0 mem in
       let now : answer B n (R (h r)) (R v) ≡ d (h r) v = hub-count h 𝓜 inside k r v upto g frame in
       let without : Row = xs ++ ys in
-      let over : (w : ℕ) → at B (R (h r)) w ≤ at B (instead R v without (h r)) w =
-      λ w.
+      let over : (q : ℕ) → at B (R (h r)) q ≤ at B (instead R v without (h r)) q =
+      λ q.
       by-cases (ℕ-discrete (h r) v)
-      (λ (q : h r ≡ v).
-      rw (instead-at R v without (h r) q, q, split) (at-drop B xs (r, m) ys w))
-      (λ q. rw (instead-not R v without (h r) q) (omega arith)) in
+      (λ (same : h r ≡ v).
+      rw (instead-at R v without (h r) same, same, split) (at-drop B xs (r, m) ys q))
+      (λ other. rw (instead-not R v without (h r) other) (omega arith)) in
       let then : d (h r) v < answer B n (instead R v without (h r)) without = more xs r m ys split (instead R v without (h r)) over g rule in
       rw (instead-at R v without v refl)
       (said-other B (answer B n (R (h r)) (R v)) (answer B n (instead R v without (h r)) without) (omega (arith, rule .reach)) (omega arith))

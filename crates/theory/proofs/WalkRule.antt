@@ -3,7 +3,6 @@
 -- kept exactly if the rule lets it in, at its distance.
 use Prim.Native.Nat.{ℕ, zero, suc, _+_, _≤_, _<_}
 use mathlib.Core.Path.{_≡_, refl, sym, ap, _∙_}
-use mathlib.Core.Logic.{_↔_}
 use mathlib.Core.Bool.{Bool}
 use native.Mathlib.Decide.{ℕ-discrete}
 use native.Mathlib.Omega.{arith}
@@ -31,8 +30,12 @@ module _ {B n : ℕ} {d W : ℕ → ℕ → ℕ} (h : ℕ → ℕ) (𝓜 : Metri
       omega (arith, hubs-le B d h k a v r i, 𝓢 .on (h r) u v (inside r (omega arith)) q f))
       (λ g. omega (arith, hubs-cap B d h k a v))
 
-  module _ (r : ℕ) (rank : r < n) (A t : ℕ → ℕ) (rows : (u : ℕ) → u < n → A u ≡ hubs B d h r (h r) u)
+  module _ (r : ℕ) (rank : r < n) (A t : ℕ → ℕ) (rows : (u : ℕ) → u < n → A u ≡ answer B n (ruleRow B d h r (h r)) (ruleRow B d h r u))
       (met : Met B n W A (h r) t) where
+    -- the answer from the rows so far is the least sum over the hubs so far
+    sums : (u : ℕ) → u < n → A u ≡ hubs B d h r (h r) u
+    sums u p = rows u p ∙ answer-hubs h 𝓜 inside r (h r) u (omega arith) (inside r rank) p
+
     over-below : (m v : ℕ) → v < n → t v < m → t v < B → d (h r) v ≤ t v
     over-below zero v p l g = absurd (omega arith)
     over-below (suc m) v p l g =
@@ -55,10 +58,10 @@ module _ {B n : ℕ} {d W : ℕ → ℕ → ℕ} (h : ℕ → ℕ) (𝓜 : Metri
         by-cases (ℕ-discrete (h r) v)
         (λ (e : h r ≡ v). omega (arith, ap t e, met .start))
         (λ e.
-        let (u, q, up) = 𝓢 .last (h r) v (inside r rank) p e (omega (arith, rows v p, hubs-cap B d h r (h r) v)) in
+        let (u, q, up) = 𝓢 .last (h r) v (inside r rank) p e (omega (arith, sums v p, hubs-cap B d h r (h r) v)) in
         let c : 1 ≤ W u v = 𝓢 .cost u v q p in
         let kept : d (h r) u < A u =
-        omega (arith, rows u q, rows v p, hubs-on r (h r) u v (omega arith) (inside r rank) q p) in
+        omega (arith, sums u q, sums v p, hubs-on r (h r) u v (omega arith) (inside r rank) q p) in
         let near : t u ≤ d (h r) u = exact-below m u q (omega arith) kept in
         omega (arith, met .on u v q p (omega arith)))
 
@@ -66,20 +69,16 @@ module _ {B n : ℕ} {d W : ℕ → ℕ → ℕ} (h : ℕ → ℕ) (𝓜 : Metri
     pub exact : (v : ℕ) → v < n → d (h r) v < A v → t v ≡ d (h r) v
     exact v p g = omega (arith, over v p, exact-below (suc (d (h r) v)) v p (omega arith) g)
 
-    -- a frame is kept exactly if the rule lets it in
-    pub kept-rule : (v : ℕ) → v < n → (t v < A v) ↔ (d (h r) v < hubs B d h r (h r) v)
-    kept-rule v p = (λ g. omega (arith, over v p, rows v p), λ g. omega (arith, exact v p (omega (arith, rows v p)), rows v p))
-
     -- so every row gains what the rule gives it
     pub met-rule : (v : ℕ) → v < n → keep r (t v) (A v) (ruleRow B d h r v) ≡ ruleRow B d h (suc r) v
     unfolding ruleRow
     met-rule v p =
         let x : Row = ruleRow B d h r v in
         lt-or-ge (d (h r) v) (A v)
-        (λ g. rw (exact v p g, rows v p))
+        (λ g. rw (exact v p g, sums v p))
         (λ g.
         keep-not r (t v) (A v) x (omega (arith, over v p))
-        ∙ sym (keep-not r (d (h r) v) (hubs B d h r (h r) v) x (omega (arith, rows v p))))
+        ∙ sym (keep-not r (d (h r) v) (hubs B d h r (h r) v) x (omega (arith, sums v p))))
 
 module _ {B n : ℕ} {d : ℕ → ℕ → ℕ} (J : ℕ → ℕ → Bool) (h : ℕ → ℕ) (𝓜 : Metric B n d)
     (inside : (r : ℕ) → r < n → h r < n) (𝓢 : Steps B n (oneEach B J) d) (room : n < B) where
@@ -89,11 +88,10 @@ module _ {B n : ℕ} {d : ℕ → ℕ → ℕ} (J : ℕ → ℕ → Bool) (h : �
   unfolding walkRow
   walk-rule R r v p q same =
       let A : ℕ → ℕ = λ u. answer B n (R (h r)) (R u) in
-      let rows : (u : ℕ) → u < n → A u ≡ hubs B d h r (h r) u =
+      let rows : (u : ℕ) → u < n → A u ≡ answer B n (ruleRow B d h r (h r)) (ruleRow B d h r u) =
       λ u f.
       ap (λ (x : Row). answer B n x (R u)) (same (h r) (inside r p))
-      ∙ ap (answer B n (ruleRow B d h r (h r))) (same u f)
-      ∙ answer-hubs h 𝓜 inside r (h r) u (omega arith) (inside r p) f in
+      ∙ ap (answer B n (ruleRow B d h r (h r))) (same u f) in
       let t : ℕ → ℕ = levels B n J A (h r) n in
       ap (keep r (t v) (A v)) (same v q)
       ∙ met-rule h 𝓜 inside 𝓢 r p A t rows (levels-met B n J A (h r) (inside r p) room) v q

@@ -1,4 +1,4 @@
--- Invariant: the square keeps its length. Each turn leaves one join less to draw.
+-- Invariant: the square keeps its length. Each turn leaves one link less to draw.
 use mathlib.Core.Path.{_≡_}
 use borrow.Author.Needs.{needs}
 use lib.ListN.{length}
@@ -6,10 +6,10 @@ use Rattle.blocks.proofs.draw.draw.Statement.{statement}
 use Rattle.blocks.proofs.draw.draw.Tie as tie
 
 abbrev Inv-loop : tie.InvT-loop
-Inv-loop marks₀ n joins first seed₀ left₀ marks seed left = length marks ≡ length marks₀
+Inv-loop marks₀ n links first seed₀ left₀ marks seed left = length marks ≡ length marks₀
 
 abbrev μ-loop : tie.MeasureT-loop
-μ-loop marks₀ n joins first seed₀ left₀ marks seed left = left
+μ-loop marks₀ n links first seed₀ left₀ marks seed left = left
 
 loop-holds : tie.Need-loop-holds Inv-loop μ-loop
 loop-holds c = search needs

@@ -16,8 +16,8 @@ abbrev μ-loop : tie.MeasureT-loop
 loop-holds : tie.Need-loop-holds Inv-loop μ-loop
 loop-holds c = search needs
 
-is-joined-requires : tie.Need-is-joined-requires Inv-loop μ-loop
-is-joined-requires c κs = search needs
+is-linked-requires : tie.Need-is-linked-requires Inv-loop μ-loop
+is-linked-requires c κs = search needs
 
 push-requires : tie.Need-push-requires Inv-loop μ-loop
 push-requires c κs = search needs
@@ -44,7 +44,7 @@ lay-list-spec =
     Inv-loop
     μ-loop
     loop-holds
-    is-joined-requires
+    is-linked-requires
     push-requires
     add-u
     loop-less

@@ -41,7 +41,7 @@ returns c =
     let p = r .before .before .before .before .before .before .before .before .pre in
     let own = r .row-of .ensures in (
       notes-back p own (m .note .ensures) (c .before .before .note2 .ensures),
-      (room-is p own (m .note .ensures) (k .spread .ensures), (k .spread .ensures .line .is, bfs-low (k .spread .ensures))),
+      (room-is p own (m .note .ensures) (k .spread .ensures), (k .spread .ensures .line, bfs-low (k .spread .ensures))),
     )
 
 pub explore-spec : {M : Type 1} → statement M

@@ -102,7 +102,7 @@ mul-queue c = omega (arith, queue-room c, c .before .before .before .before .bef
 slice-write-queue : tie.Need-slice-write-queue Inv-loop μ-loop
 slice-write-queue c =
     let g = c .before .before .before .before .loop .inv .2 in
-    omega (arith, queue-room c, g .long, g .line .is .long)
+    omega (arith, queue-room c, g .long, g .line .long)
 
 add-grown : tie.Need-add-grown Inv-loop μ-loop
 add-grown c = omega (arith, queue-room c, c .before .before .before .before .before .before .before .pre .frames)
@@ -139,7 +139,7 @@ same-length-2 : tie.Need-same-length-2 Inv-loop μ-loop
 same-length-2 c =
     let s = c .before .before .before .before in
     let g = c .before .loop .inv .2 in
-    g .line .is .long ∙ g .long ∙ sym (s .pre .line .is .long)
+    g .line .long ∙ g .long ∙ sym (s .pre .line .long)
 
 returns : tie.Need-returns Inv-loop μ-loop
 returns c =

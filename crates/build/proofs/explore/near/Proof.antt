@@ -1,26 +1,29 @@
 -- The entries passed give no sum of at most the level, so what is left of the row decides. The loop takes one entry a
 -- turn, and ends at the first such sum or at the row's end.
-use Prim.Native.Nat.{_-_, _≤_}
-use mathlib.Core.Path.{_≡_, sym, _∙_}
+use Prim.Native.Nat.{ℕ, _-_, _≤_}
+use mathlib.Core.Path.{_≡_, refl, sym, ap, _∙_}
+use native.Mathlib.Nat.{sub-zero}
 use native.Mathlib.Omega.{arith}
 use borrow.Author.Needs.{needs}
-use lib.ListN.{length}
+use borrow.Author.Tests.{le-leb, lt-leb}
+use lib.ListN.{length, getD}
+use Rattle.basics.specs.Places.{some}
+use Rattle.basics.proofs.Laws.{some-here, some-step, some-over}
 use Rattle.rows.specs.Entry.{joinsOf}
-use Rattle.build.specs.Explore.{within}
-use Rattle.build.proofs.DropWithin.{within-from, within-whole, within-hit, within-miss, within-end}
+use Rattle.build.specs.Explore.{entryWithin, within}
 use Rattle.build.proofs.explore.near.Statement.{statement}
 use Rattle.build.proofs.explore.near.Tie as tie
 
 abbrev Inv-loop : tie.InvT-loop
-Inv-loop row noted level i₀ i = (i ≤ length row) × (within-from noted row level i ≡ within noted row level)
+Inv-loop row noted level i₀ i =
+    (i ≤ length row) × (some (entryWithin noted row level) i (length row - i) ≡ within noted row level)
 
 abbrev μ-loop : tie.MeasureT-loop
 μ-loop row noted level i₀ i = length row - i
 
 loop-holds : tie.Need-loop-holds Inv-loop μ-loop
-loop-holds c =
-    let a = c .before .before .args in
-    (omega arith, within-whole (a .noted .now) (a .row .now) (a .level))
+unfolding within
+loop-holds c = (omega arith, rw sub-zero refl)
 
 mul-e : tie.Need-mul-e Inv-loop μ-loop
 mul-e c = search needs
@@ -59,12 +62,11 @@ returns : tie.Need-returns Inv-loop μ-loop
 returns c =
     let l = c .before .before .before .before .before .before .loop in
     let a = c .before .before .before .before .before .before .before .before .before .args in
+    let note = ap (λ (r : ℕ). getD (a .noted .now) r 0) (c .before .before .before .rank-of .ensures) in
     sym
-    (within-hit (a .noted .now) (a .row .now) (a .level) (l .i) _ _
+    (some-here (entryWithin (a .noted .now) (a .row .now) (a .level)) (l .i) (length (a .row .now))
     (c .before .before .before .before .before .loop-test .taken)
-    (c .before .before .before .rank-of .ensures)
-    (c .before .before .joins-of .ensures)
-    (omega (arith, c .if1 .taken)))
+    (le-leb _ (a .level) (omega (arith, c .if1 .taken, c .before .before .joins-of .ensures, note))))
     ∙ l .inv .1
 
 add-i : tie.Need-add-i Inv-loop μ-loop
@@ -76,14 +78,12 @@ loop-less c = omega arith
 loop-again : tie.Need-loop-again Inv-loop μ-loop
 loop-again c =
     let l = c .before .before .before .before .before .before .loop in
-    let a = c .before .before .before .before .before .before .before .before .before .args in (
+    let a = c .before .before .before .before .before .before .before .before .before .args in
+    let note = ap (λ (r : ℕ). getD (a .noted .now) r 0) (c .before .before .before .rank-of .ensures) in (
       omega arith,
-      sym
-          (within-miss (a .noted .now) (a .row .now) (a .level) (l .i) _ _
+      some-step (entryWithin (a .noted .now) (a .row .now) (a .level)) (l .i) (length (a .row .now))
           (c .before .before .before .before .before .loop-test .taken)
-          (c .before .before .before .rank-of .ensures)
-          (c .before .before .joins-of .ensures)
-          (omega (arith, c .if1 .left)))
+          (lt-leb _ (a .level) (omega (arith, c .if1 .left, c .before .before .joins-of .ensures, note)))
           ∙ l .inv .1,
     )
 
@@ -91,7 +91,7 @@ returns-2 : tie.Need-returns-2 Inv-loop μ-loop
 returns-2 c =
     let l = c .before .loop in
     let a = c .before .before .before .before .args in
-    sym (within-end (a .noted .now) (a .row .now) (a .level) (l .i) (c .loop-test .left)) ∙ l .inv .1
+    sym (some-over (entryWithin (a .noted .now) (a .row .now) (a .level)) (l .i) _ (c .loop-test .left)) ∙ l .inv .1
 
 pub near-spec : {M : Type 1} → statement M
 near-spec =

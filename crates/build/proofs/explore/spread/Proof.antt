@@ -56,13 +56,13 @@ add-head c =
     let k = c .before .before .before .before .before .before .before in
     let s = k .before .before .before .before .before .before .before .before .before in
     let b = k .before .loop .inv in
-    omega (arith, k .loop-test .taken, b .line .is .few, b .long, s .pre .given .frames)
+    omega (arith, k .loop-test .taken, b .line .few, b .long, s .pre .given .frames)
 
 loop-less : tie.Need-loop-less Inv-loop μ-loop
 loop-less c =
     let k = c .before .before .before .before .before .before .before in
     let b = k .before .loop .inv in
-    omega (arith, k .loop-test .taken, b .line .is .few, b .long)
+    omega (arith, k .loop-test .taken, b .line .few, b .long)
 
 loop-again : tie.Need-loop-again Inv-loop μ-loop
 loop-again c =
@@ -75,7 +75,7 @@ same-length c = c .before .loop .inv .long ∙ sym (met-long (c .before .before 
 same-length-2 : tie.Need-same-length-2 Inv-loop μ-loop
 same-length-2 c =
     let b = c .before .loop .inv in
-    b .line .is .long ∙ b .long ∙ sym (queue-long (c .before .before .before .before .before .before .before .before .before))
+    b .line .long ∙ b .long ∙ sym (queue-long (c .before .before .before .before .before .before .before .before .before))
 
 returns : tie.Need-returns Inv-loop μ-loop
 returns c =

@@ -12,12 +12,12 @@ use Rattle.build.proofs.explore.step.Tie as tie
 mul-u : tie.Need-mul-u
 mul-u c =
     let s = c .before .before .before .before .before .before .before in
-    omega (arith, s .pre .more, s .pre .so-far .line .is .few, s .pre .so-far .long, s .pre .given .frames)
+    omega (arith, s .pre .more, s .pre .so-far .line .few, s .pre .so-far .long, s .pre .given .frames)
 
 slice-read-u : tie.Need-slice-read-u
 slice-read-u c =
     let s = c .before .before .before .before .before .before .before .before in
-    omega (arith, s .pre .more, s .pre .so-far .line .is .few, s .pre .so-far .line .is .long)
+    omega (arith, s .pre .more, s .pre .so-far .line .few, s .pre .so-far .line .long)
 
 cast-u : tie.Need-cast-u
 cast-u c = omega (arith, c .slice-known3 .given (c .before .before .before .before .before .before .before .before .args .head))

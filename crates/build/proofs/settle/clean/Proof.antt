@@ -1,39 +1,34 @@
--- The invariant: a frame that stands at no queue place still to come is 0 in the met room, the queue is 0 at the places
--- passed and as lent behind them. The turn clears the frame at i and the place i; it ends as i rises to the tail.
+-- The invariant: a frame that stands at no queue place still to come is 0 in the met room, and the queue is `Cleared`. The
+-- turn clears the frame at i and the place i; it ends as i rises to the tail.
 use Prim.Native.Nat.{ℕ, _-_, _≤_, _<_}
 use mathlib.Core.Path.{_≡_, refl, sym, ap, _∙_}
 use native.Mathlib.Decide.{ℕ-discrete}
 use native.Mathlib.Omega.{arith}
-use lib.ListN.{length, getD, replicate, length-set, length-replicate, getD-replicate}
+use lib.ListN.{length, getD, replicate, length-set, length-replicate}
 use lib.Seq.{ext-getD}
 use Rattle.basics.proofs.Laws.{by-cases, at-set}
+use Rattle.build.proofs.RoomClear.{zero-at, Cleared, clear-none, clear-more, clear-rest}
 use Rattle.build.proofs.settle.clean.Statement.{statement}
 use Rattle.build.proofs.settle.clean.Tie as tie
 
 abbrev Inv-loop : tie.InvT-loop
 Inv-loop met₀ queue₀ tail i₀ met queue i =
-    (i ≤ tail)
-    × (length met ≡ length met₀)
-    × (length queue ≡ length queue₀)
+    (length met ≡ length met₀)
     × ((v : ℕ) → v < length met₀ → ((j : ℕ) → i ≤ j → j < tail → getD queue₀ j 0 ≡ v → ⊥) → getD met v 0 ≡ 0)
-    × ((j : ℕ) → j < i → getD queue j 0 ≡ 0)
-    × ((j : ℕ) → i ≤ j → getD queue j 0 ≡ getD queue₀ j 0)
+    × Cleared queue₀ queue i
 
 abbrev μ-loop : tie.MeasureT-loop
 μ-loop met₀ queue₀ tail i₀ met queue i = tail - i
 
 loop-holds : tie.Need-loop-holds Inv-loop μ-loop
 loop-holds c = (
-  omega arith,
-  refl,
   refl,
   λ v h out.
       by-cases (ℕ-discrete (getD (c .args .met .now) v 0) 0) (λ (e : getD (c .args .met .now) v 0 ≡ 0). e)
       (λ ne.
       let (i, l, is) = c .pre .all v h (omega arith) in
       absurd (out i (omega arith) l is)),
-  λ j h. absurd (omega arith),
-  λ j h. refl,
+  clear-none _,
 )
 
 mul-v : tie.Need-mul-v Inv-loop μ-loop
@@ -51,9 +46,9 @@ low c =
     let l = c .before .before .loop in
     omega (
       arith,
-      l .inv .5 (l .at) (omega arith),
+      l .inv .2 .back (l .at) (omega arith),
       c .before .before .before .pre .low (l .at) (c .before .loop-test .taken),
-      l .inv .1,
+      l .inv .0,
     )
 
 mul-met : tie.Need-mul-met Inv-loop μ-loop
@@ -81,42 +76,32 @@ loop-again c =
     let met = l .met in
     let queue = l .queue in
     let i = l .at in
-    let here : getD queue i 0 ≡ getD (a .queue .now) i 0 = l .inv .5 i (omega arith) in (
-      omega arith,
-      length-set met (getD queue i 0) 0 ∙ l .inv .1,
-      length-set queue i 0 ∙ l .inv .2,
+    let here : getD queue i 0 ≡ getD (a .queue .now) i 0 = l .inv .2 .back i (omega arith) in (
+      length-set met (getD queue i 0) _ ∙ l .inv .0,
       λ v h out.
-          at-set met (getD queue i 0) v 0 0 0 (low c) (λ e. refl)
+          at-set met (getD queue i 0) v _ 0 0 (low c) (λ e. refl)
           (λ ne.
-          l .inv .3 v h
+          l .inv .1 v h
           (λ j g b is.
           by-cases (ℕ-discrete j i) (λ (e : j ≡ i). ne (sym is ∙ ap (λ (k : ℕ). getD (a .queue .now) k 0) e ∙ sym here))
           (λ e. out j (omega arith) b is))),
-      λ j h. at-set queue i j 0 0 0 (omega arith) (λ e. refl) (λ ne. l .inv .4 j (omega arith)),
-      λ j h.
-          at-set queue i j 0 0 (getD (a .queue .now) j 0) (omega arith) (λ (e : j ≡ i). absurd (omega arith))
-          (λ ne. l .inv .5 j (omega arith)),
+      clear-more (l .inv .2) (omega (arith, l .inv .2 .long)),
     )
 
 same-length : tie.Need-same-length Inv-loop μ-loop
-same-length c = c .before .loop .inv .1
+same-length c = c .before .loop .inv .0
 
 same-length-2 : tie.Need-same-length-2 Inv-loop μ-loop
-same-length-2 c = c .before .loop .inv .2
+same-length-2 c = c .before .loop .inv .2 .long
 
 returns : tie.Need-returns Inv-loop μ-loop
 returns c =
     let s = c .before .before in
-    let n = length (s .args .met .now) in (
-      ext-getD 0 (c .before .loop .met) (replicate n 0) (c .before .loop .inv .1 ∙ sym (length-replicate n 0))
-          (λ v h.
-          c .before .loop .inv .3 v (omega (arith, c .before .loop .inv .1)) (λ j g l is. absurd (omega arith))
-          ∙ sym (getD-replicate n v 0 0 (omega (arith, c .before .loop .inv .1)))),
-      ext-getD 0 (c .before .loop .queue) (replicate n 0) (c .before .loop .inv .2 ∙ s .pre .long ∙ sym (length-replicate n 0))
-          (λ j h.
-          by-cases (native.Mathlib.Decide.decLt j (c .before .loop .at)) (c .before .loop .inv .4 j)
-          (λ g. c .before .loop .inv .5 j (omega arith) ∙ s .pre .rest j (omega arith))
-          ∙ sym (getD-replicate n j 0 0 (omega (arith, c .before .loop .inv .2, s .pre .long)))),
+    let n = length (s .args .met .now) in
+    let (long, none, queue) = c .before .loop .inv in (
+      ext-getD 0 (c .before .loop .met) (replicate n 0) (long ∙ sym (length-replicate n 0))
+          (λ v h. none v (omega arith) (λ j g l is. absurd (omega arith)) ∙ sym (zero-at n v)),
+      clear-rest queue (λ j h. s .pre .rest j (omega arith)) ∙ ap (λ (m : ℕ). replicate m 0) (s .pre .long),
     )
 
 pub clean-spec : {M : Type 1} → statement M

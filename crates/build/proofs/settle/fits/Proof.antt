@@ -50,7 +50,7 @@ shared-slice-read-lacks-room-2 c = low (c .before .before .before)
 lacks-room-requires : tie.Need-lacks-room-requires Inv-loop μ-loop
 lacks-room-requires c κs =
     let t = c .before .before .before in
-    t .before .before .before .before .before .pre .1 .marked (t .before .loop .at) (t .loop-test .taken)
+    t .before .before .before .before .before .pre .1 .is-met (t .before .loop .at) (t .loop-test .taken)
 
 returns : tie.Need-returns Inv-loop μ-loop
 returns c =

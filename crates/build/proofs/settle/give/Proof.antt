@@ -7,7 +7,7 @@ use borrow.Author.Needs.{needs}
 use lib.ListN.{length, getD, set}
 use Rattle.basics.proofs.Laws.{cond-true, cond-false}
 use Rattle.build.specs.Settle.{isKept}
-use Rattle.build.proofs.RoomLaws.{row-place}
+use Rattle.rows.proofs.Laws.{row-place}
 use Rattle.build.proofs.RoomMarks.{kept-mark, dropped-mark}
 use Rattle.build.proofs.settle.give.Statement.{statement}
 use Rattle.build.proofs.settle.give.Tie as tie

@@ -1,10 +1,9 @@
 -- The two tests decide the case; where both hold, what is stored is what `store` stores. No walk meets over 4,096 frames.
-use mathlib.Core.Path.{refl, sym, ap, _∙_}
+use mathlib.Core.Path.{sym, _∙_}
 use native.Mathlib.Omega.{arith}
 use borrow.Author.Needs.{needs}
-use lib.ListN.{length}
 use Rattle.build.specs.Settle.{ifMade}
-use Rattle.build.proofs.RoomLaws.{length-counts}
+use Rattle.build.proofs.RoomLaws.{laid-long}
 use Rattle.build.proofs.RoomMarks.{settle-made, settle-full}
 use Rattle.build.proofs.settle.settle.Statement.{statement}
 use Rattle.build.proofs.settle.settle.Tie as tie
@@ -12,7 +11,7 @@ use Rattle.build.proofs.settle.settle.Tie as tie
 fits-requires : tie.Need-fits-requires
 fits-requires c κs =
     let s = c .before .before .before .before .before in
-    (ap length (s .pre .laid .numbers) ∙ length-counts (length (s .args .met .now)) _, s .pre .queued)
+    (laid-long (s .pre .laid) .1, s .pre .queued)
 
 store-requires : tie.Need-store-requires
 store-requires c κs =
@@ -32,7 +31,7 @@ returns c =
     let f = c .before .before .before .before .before .before .before in
     let t = f .before in
     let made = settle-made (t .before .before .before .before .before .before .before .pre) (sym (t .before .fits2 .ensures) ∙ t .if1 .taken) (omega (arith, f .if2 .taken)) in
-    (sym made, (stored .0, stored .1))
+    (sym made, stored)
 
 same-length-3 : tie.Need-same-length-3
 same-length-3 c = search needs
@@ -47,7 +46,9 @@ same-length-4 c = search needs
 
 returns-3 : tie.Need-returns-3
 unfolding ifMade
-returns-3 c = (sym (settle-full (c .before .before .before .before .before .before .before .pre) (sym (c .before .fits2 .ensures) ∙ c .if1 .left)), (refl, refl))
+returns-3 c =
+    let p = c .before .before .before .before .before .before .before .pre in
+    (sym (settle-full p (sym (c .before .fits2 .ensures) ∙ c .if1 .left)), p .laid)
 
 pub settle-spec : {M : Type 1} → statement M
 settle-spec =

@@ -6,17 +6,15 @@ use mathlib.Core.List.{List}
 use native.Mathlib.Omega.{arith}
 use lib.ListN.{length, getD}
 use Rattle.theory.specs.Rows.{Row}
-use Rattle.build.specs.Build.{labelsOf, countsOf}
-use Rattle.build.proofs.RoomLaws.{length-labels, length-counts, count-at}
-use Rattle.build.proofs.RoomMarks.{upto, still, room-left, labels-begin, counts-begin, labels-step, counts-step, labels-end, counts-end}
+use Rattle.build.specs.Build.{Laid}
+use Rattle.build.proofs.RoomLaws.{laid-long, count-at}
+use Rattle.build.proofs.RoomMarks.{upto, still, room-left, laid-begin, laid-step, laid-end}
 use Rattle.build.proofs.settle.store.Statement.{statement}
 use Rattle.build.proofs.settle.store.Tie as tie
 
 abbrev Inv-loop : tie.InvT-loop
 Inv-loop w rank labels₀ counts₀ met queue tail i₀ labels counts i =
-    (i ≤ tail)
-    × (labels ≡ labelsOf (length met) w (upto w rank labels₀ counts₀ met queue i))
-    × (counts ≡ countsOf (length met) (upto w rank labels₀ counts₀ met queue i))
+    (i ≤ tail) × Laid (length met) w (upto w rank labels₀ counts₀ met queue i) labels counts
 
 abbrev μ-loop : tie.MeasureT-loop
 μ-loop w rank labels₀ counts₀ met queue tail i₀ labels counts i = tail - i
@@ -24,7 +22,7 @@ abbrev μ-loop : tie.MeasureT-loop
 loop-holds : tie.Need-loop-holds Inv-loop μ-loop
 loop-holds c =
     let s = c .before .before .before .before in
-    (omega arith, labels-begin (s .args .rank) (s .pre .0) (s .pre .1), counts-begin (s .args .rank) (s .pre .0) (s .pre .1))
+    (omega arith, laid-begin (s .args .rank) (s .pre .0) (s .pre .1))
 
 mul-v : tie.Need-mul-v Inv-loop μ-loop
 mul-v c = omega arith
@@ -57,15 +55,15 @@ give-requires c κs =
     let n = length (s .args .met .now) in
     let P : ℕ → Row = upto w (s .args .rank) (s .args .labels .now) (s .args .counts .now) (s .args .met .now) (s .args .queue .now) i in
     let inside : v < n = s .pre .0 .queued .low i (t .taken) in
-    let long : length (l .counts) ≡ n = ap length (l .inv .2) ∙ length-counts n P in
+    let (long-labels, long) = laid-long (l .inv .1) in
     record {
-      met = s .pre .0 .queued .marked (l .at) (t .taken);
+      met = s .pre .0 .queued .is-met (l .at) (t .taken);
       inside = omega arith;
-      long = ap length (l .inv .1) ∙ length-labels n w P ∙ ap (λ (k : ℕ). k * w) (sym long);
+      long = long-labels ∙ ap (λ (k : ℕ). k * w) (sym long);
       width = s .pre .0 .width;
       room =
           λ kept.
-          rw (ap (λ (x : List ℕ). getD x v 0) (l .inv .2) ∙ count-at n P v inside
+          rw (ap (λ (x : List ℕ). getD x v 0) (l .inv .1 .numbers) ∙ count-at n P v inside
           ∙ ap length (still (s .args .rank) (s .pre .0) (s .pre .1) i (t .taken)))
           (room-left (s .args .rank) (s .pre .0) (s .pre .1) v inside kept);
     }
@@ -83,31 +81,23 @@ loop-again c =
     let l = c .before .before .before .before .before .before .before .before .before .before .loop in
     let s = c .before .before .before .before .before .before .before .before .before .before .before .before .before .before .before in (
       omega arith,
-      give .ensures .0
-          ∙ labels-step (s .args .rank) (s .pre .0) (s .pre .1) (l .at) (l .labels) (l .counts) (t .taken)
-          (l .inv .1) (l .inv .2),
-      give .ensures .1
-          ∙ counts-step (s .args .rank) (s .pre .0) (s .pre .1) (l .at) (l .counts) (t .taken) (l .inv .2),
+      laid-step (s .args .rank) (s .pre .0) (s .pre .1) (l .at) (t .taken) (l .inv .1) (give .ensures .0) (give .ensures .1),
     )
 
 same-length : tie.Need-same-length Inv-loop μ-loop
 same-length c =
-    ap length (c .before .loop .inv .1)
-    ∙ length-labels _ _ _
-    ∙ sym (ap length (c .before .before .before .before .before .before .pre .0 .laid .places) ∙ length-labels _ _ _)
+    laid-long (c .before .loop .inv .1) .0 ∙ sym (laid-long (c .before .before .before .before .before .before .pre .0 .laid) .0)
 
 same-length-2 : tie.Need-same-length-2 Inv-loop μ-loop
 same-length-2 c =
-    ap length (c .before .loop .inv .2) ∙ length-counts _ _ ∙ sym (ap length (c .before .before .before .before .before .before .pre .0 .laid .numbers) ∙ length-counts _ _)
+    laid-long (c .before .loop .inv .1) .1 ∙ sym (laid-long (c .before .before .before .before .before .before .pre .0 .laid) .1)
 
 returns : tie.Need-returns Inv-loop μ-loop
 returns c =
     let l = c .before .loop in
     let s = c .before .before .before .before .before .before in
-    let end : l .at ≡ s .args .tail = omega arith in (
-      (rw end at (l .inv .1)) ∙ labels-end (s .args .rank) (s .pre .0) (s .pre .1),
-      (rw end at (l .inv .2)) ∙ counts-end (s .args .rank) (s .pre .0) (s .pre .1),
-    )
+    let end : l .at ≡ s .args .tail = omega arith in
+    laid-end (s .args .rank) (s .pre .0) (s .pre .1) (rw end at (l .inv .1))
 
 pub store-spec : {M : Type 1} → statement M
 store-spec =

@@ -1,10 +1,7 @@
 -- What the first half leaves is what the second half reads, so the walk is settled by the levels and the rows stored are
 -- those after the walk; cleaning along the queue leaves the work rooms 0.
-use Prim.Native.Nat.{ℕ}
-use mathlib.Core.Path.{sym, subst}
 use native.Mathlib.Omega.{arith}
 use borrow.Author.Needs.{needs}
-use Rattle.build.specs.Settle.{Laid}
 use Rattle.build.proofs.RoomWalk.{met-long, walk-left}
 use Rattle.build.proofs.walk.walk.Statement.{statement}
 use Rattle.build.proofs.walk.walk.Tie as tie
@@ -21,7 +18,7 @@ settle-requires c κs =
       frames = omega (arith, long, s .pre .ready .frames);
       wide = s .pre .ready .wide;
       width = s .pre .ready .width;
-      laid = subst (λ (n : ℕ). Laid n (s .args .w) (s .args .labels .now) (s .args .counts .now)) (sym long) (s .pre .laid);
+      laid = rw long (s .pre .laid);
       queued = m .explore .ensures .1 .1 .0;
       low = m .explore .ensures .1 .1 .1;
     }
@@ -50,7 +47,7 @@ returns c =
     let settled = c .before .before .before .before .before .before .before .before .before .before .before .settle .ensures in
     let m = c .before .before .before .before .before .before .before .before .before .before .before .before .before .before .before .before .before .before .before .before .before .before in
     let s = m .before .before .before .before .before .before .before .before .before .before .before .before .before in (
-      walk-left (s .pre .ready) (m .explore .ensures .1 .0) (s .args .rank) (settled .0) (settled .1 .0) (settled .1 .1)
+      walk-left (s .pre .ready) (m .explore .ensures .1 .0) (s .args .rank) (settled .0) (settled .1)
           (cleaned .0) (cleaned .1),
       m .explore .ensures .0,
     )

@@ -23,8 +23,8 @@ returns c = search needs
 returns-2 : tie.Need-returns-2
 returns-2 c = search needs
 
-mul-places : tie.Need-mul-places
-mul-places c = search needs
+mul-label-places : tie.Need-mul-label-places
+mul-label-places c = search needs
 
 array-borrow-prefix-order : tie.Need-array-borrow-prefix-order
 array-borrow-prefix-order c = search needs
@@ -63,7 +63,7 @@ judge-spec =
     place-requires
     returns
     returns-2
-    mul-places
+    mul-label-places
     array-borrow-prefix-order
     slice-aggregate-read
     array-borrow-prefix-labels

@@ -1,10 +1,8 @@
 -- `entry`: a legal entry whose bytes are there goes on with its rank, every other one is tested field by field.
-use Prim.Native.Nat.{ℕ, _/_, _%_}
-use mathlib.Core.Path.{ap, _∙_}
 use native.Mathlib.Omega.{arith}
 use borrow.Author.Needs.{needs}
 use Rattle.file.specs.Bits.{byteLen}
-use Rattle.file.proofs.Bits.{pair-rank, pair-joins}
+use Rattle.file.proofs.Bits.{pair-parts}
 use Rattle.file.proofs.Fields.{entry-legal}
 use Rattle.file.proofs.Steps.{short-fine, step-fine}
 use Rattle.file.proofs.check.entry.Statement.{statement}
@@ -22,8 +20,7 @@ returns c =
     let a = c .before .before .before .before .before .before .args in
     let f = c .before .before .before .four .ensures in
     let there = c .before .before .before .before .if1 .taken in
-    let rank = ap (λ (x : ℕ). x / 4096) f ∙ pair-rank _ (a .p) (omega arith) in
-    let joins = ap (λ (x : ℕ). x % 4096) f ∙ pair-joins _ (a .p) in
+    let (rank, joins) = pair-parts _ (a .p) (omega arith) f in
     step-fine (entry-legal _ _ _ _ _ (short-fine _ _ _ (omega arith)) (omega (arith, c .before .before .if2 .taken))
     (omega (arith, c .before .if3 .taken)) (short-fine _ _ _ (omega arith)) (omega (arith, c .if4 .taken))) rank
 

@@ -5,10 +5,10 @@ use mathlib.Core.Path.{_≡_, sym, ap, _∙_}
 use native.Mathlib.Omega.{arith}
 use borrow.Author.Needs.{needs}
 use Rattle.file.specs.Reader.{frameAt, orderFrom}
+use Rattle.refusal.proofs.Laws.{tests-stop, tests-on, tests-end}
 use Rattle.links.specs.Inner.{Seen}
 use Rattle.links.proofs.Order.{seen-none}
 use native.Mathlib.Nat.{sub-zero}
-use Rattle.file.proofs.Fields.{order-stop, order-on, order-end}
 use Rattle.file.proofs.check.order.Statement.{statement}
 use Rattle.file.proofs.check.order.Tie as tie
 
@@ -39,7 +39,7 @@ returns c =
     let g = c .enum-told2 .given .1 in
     let f = c .before .before .before in
     let t = f .before .before in
-    g ∙ sym (order-stop _ _ _ (t .loop-test .taken) (sym (f .order-field .ensures .0) ∙ g)) ∙ t .before .loop .inv .2
+    g ∙ sym (tests-stop _ _ _ (t .loop-test .taken) (sym (f .order-field .ensures .0) ∙ g)) ∙ t .before .loop .inv .2
 
 add-r : tie.Need-add-r Inv-loop μ-loop
 add-r c = omega arith
@@ -52,10 +52,10 @@ loop-again c =
     let f = c .before .before .before in
     let t = f .before .before in
     let e = sym (f .order-field .ensures .0) ∙ c .enum-told .given .1 in
-    (omega arith, f .order-field .ensures .1 e, order-on _ _ _ (t .loop-test .taken) e ∙ t .before .loop .inv .2)
+    (omega arith, f .order-field .ensures .1 e, tests-on _ _ _ (t .loop-test .taken) e ∙ t .before .loop .inv .2)
 
 returns-2 : tie.Need-returns-2 Inv-loop μ-loop
-returns-2 c = sym (order-end _ _ _ (omega arith)) ∙ c .before .loop .inv .2
+returns-2 c = sym (tests-end _ _ _ (omega arith)) ∙ c .before .loop .inv .2
 
 pub order-spec : {M : Type 1} → statement M
 order-spec =

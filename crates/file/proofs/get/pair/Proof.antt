@@ -1,19 +1,21 @@
 -- `pair`: where four bytes are there they give the 24 bits, else the two fields do.
 use Prim.Native.Nat.{ℕ, _+_, _*_, _≤_, _<_}
-use mathlib.Core.Path.{_≡_, sym, ap₂, _∙_}
+use mathlib.Core.Path.{_≡_, refl, sym, ap₂, _∙_}
 use mathlib.Core.List.{List}
 use native.Mathlib.Omega.{arith}
 use borrow.Author.Needs.{needs}
 use lib.ListN.{length}
 use lib.Pow.{split}
 use Rattle.file.specs.Bits.{fieldAt, byteLen}
-use Rattle.file.proofs.Bits.{field-lt, pair-rank, pair-joins}
+use Rattle.file.proofs.Bits.{field-lt, pair-parts}
 use Rattle.file.proofs.get.pair.Statement.{statement}
 use Rattle.file.proofs.get.pair.Tie as tie
 
 -- the two fields as one number
 joined : (s : List ℕ) (p : ℕ) → p + 24 ≤ 8 * length s → fieldAt s p 12 * 4096 + fieldAt s (p + 12) 12 ≡ fieldAt s p 24
-joined s p h = sym (ap₂ (λ (x y : ℕ). x * 4096 + y) (pair-rank s p h) (pair-joins s p)) ∙ split (fieldAt s p 24) 12
+joined s p h =
+    let (rank, joins) = pair-parts s p h refl in
+    sym (ap₂ (λ (x y : ℕ). x * 4096 + y) rank joins) ∙ split (fieldAt s p 24) 12
 
 add-end : tie.Need-add-end
 add-end c = search needs

@@ -1,12 +1,11 @@
 -- The last byte: the bits held, moved up to the byte's front.
 use Prim.Native.Nat.{ℕ, suc, _+_, _-_, _*_, _/_, _%_, _^_, _≤_, _<_}
 use mathlib.Core.Path.{_≡_, refl, sym, ap, ap₂, subst, _∙_}
-use mathlib.Core.List.{List, [], _∷_}
+use mathlib.Core.List.{List, []}
 use native.Mathlib.Omega.{arith}
 use borrow.Author.Needs.{needs}
 use denote.Ref.{now}
 use lib.ListN.{length, set, take}
-use native.Mathlib.Nat.{add-mul, mul-assoc}
 use lib.ListN.{length-set}
 use lib.Seq.{take-suc-set}
 use lib.Arith.{lt-one}
@@ -14,7 +13,7 @@ use lib.Pow.{pow-add, shl-exact, shl-lt}
 use Rattle.file.specs.Bits.{val, bitLen, byteLen, padLen}
 use Rattle.file.specs.Pen.{penBits, penNum, Ready, Closed}
 use Rattle.file.specs.declared.put.Pen.{Pen}
-use Rattle.file.proofs.Bits.{val-append}
+use Rattle.file.proofs.Bits.{val-snoc, horner}
 use Rattle.file.proofs.put.close.Statement.{statement}
 use Rattle.file.proofs.put.close.Tie as tie
 
@@ -49,7 +48,7 @@ module _ (o : List ℕ) (p : Pen) (r : Ready o p []) where
   inside h = omega (arith, r .space)
 
   odd : 0 < p .nb → Closed o p (set o (p .at) (p .acc * 2 ^ (8 - p .nb) % 2 ^ 64))
-  unfolding byteLen padLen penNum val
+  unfolding byteLen padLen penNum
   odd h =
       let F : ℕ = val (take (p .at) o) in
       let last : ℕ = p .acc * 2 ^ (8 - p .nb) % 2 ^ 64 in
@@ -61,10 +60,9 @@ module _ (o : List ℕ) (p : Pen) (r : Ready o p []) where
       record {
         long = length-set o (p .at) last;
         whole =
-            ap (λ (k : ℕ). val (take k (set o (p .at) last))) bytes ∙ ap val (take-suc-set o (p .at) last (inside h)) ∙ val-append (take (p .at) o) (last ∷ [])
-            ∙ ap (λ (x : ℕ). F * 2 ^ 8 + (x * 1 + 0)) moved
-            ∙ ap (λ (x : ℕ). F * x + (p .acc * 2 ^ (8 - p .nb) * 1 + 0)) power
-            ∙ omega (arith, mul-assoc F (2 ^ p .nb) (2 ^ (8 - p .nb)), add-mul (F * 2 ^ p .nb) (p .acc) (2 ^ (8 - p .nb)))
+            ap (λ (k : ℕ). val (take k (set o (p .at) last))) bytes ∙ ap val (take-suc-set o (p .at) last (inside h)) ∙ val-snoc (take (p .at) o) last
+            ∙ ap₂ (λ (x y : ℕ). F * x + y) power moved
+            ∙ omega (arith, horner F (p .acc) 0 (2 ^ p .nb) (2 ^ (8 - p .nb)))
             ∙ ap (λ (k : ℕ). (F * 2 ^ p .nb + p .acc) * 2 ^ k) (sym pad);
       }
 
@@ -78,13 +76,13 @@ cast-out : tie.Need-cast-out
 cast-out c = let a = c .before .before .args in record { fits = moved-lt (now (a .out)) (a .pen) (c .before .before .pre) }
 
 slice-write-out : tie.Need-slice-write-out
-slice-write-out c = let a = c .before .before .args in inside (now (a .out)) (a .pen) (c .before .before .pre) (c .before .if1 .taken)
+slice-write-out c = let a = c .before .before .args in inside (now (a .out)) (a .pen) (c .before .before .pre) (omega (arith, c .before .if1 .taken))
 
 same-length : tie.Need-same-length
 same-length c = search needs
 
 returns : tie.Need-returns
-returns c = let a = c .before .before .args in odd (now (a .out)) (a .pen) (c .before .before .pre) (c .before .if1 .taken)
+returns c = let a = c .before .before .args in odd (now (a .out)) (a .pen) (c .before .before .pre) (omega (arith, c .before .if1 .taken))
 
 returns-2 : tie.Need-returns-2
 returns-2 c = let a = c .before .args in even (now (a .out)) (a .pen) (c .before .pre) (c .if1 .left)

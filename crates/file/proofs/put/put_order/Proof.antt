@@ -2,10 +2,11 @@
 -- grow fewer.
 use Prim.Native.Nat.{_-_, _≤_}
 use native.Mathlib.Omega.{arith}
+use native.Mathlib.Nat.{sub-zero}
 use borrow.Author.Needs.{needs}
-use lib.ListN.{length, drop}
-use Rattle.file.specs.Layout.{frameFields, orderFields}
-use Rattle.file.proofs.LayoutLaws.{each-next, each-end}
+use lib.ListN.{length, getD}
+use Rattle.file.specs.Layout.{fieldsFrom, frameFields, orderFields}
+use Rattle.file.proofs.LayoutLaws.{fields-next, fields-end}
 use Rattle.file.specs.Pen.{Left}
 use Rattle.file.proofs.Pen.{left-start, left-ready, left-step, left-end}
 use Rattle.file.proofs.put.put_order.Statement.{statement}
@@ -13,13 +14,13 @@ use Rattle.file.proofs.put.put_order.Tie as tie
 
 abbrev Inv-loop : tie.InvT-loop
 Inv-loop out₀ order tip₀ rank₀ out tip rank =
-    (rank ≤ length order) × Left out₀ tip₀ (orderFields order) out tip (orderFields (drop rank order))
+    (rank ≤ length order) × Left out₀ tip₀ (orderFields order) out tip (fieldsFrom (λ r. frameFields (getD order r 0)) rank (length order - rank))
 
 abbrev μ-loop : tie.MeasureT-loop
 μ-loop out₀ order tip₀ rank₀ out tip rank = length order - rank
 
 loop-holds : tie.Need-loop-holds Inv-loop μ-loop
-loop-holds c = (omega arith, left-start (c .before .before .pre))
+loop-holds c = (omega arith, rw sub-zero (left-start (c .before .before .pre)))
 
 mul-frame : tie.Need-mul-frame Inv-loop μ-loop
 mul-frame c = search needs
@@ -33,7 +34,7 @@ cast-frame c = omega (arith, c .shared-slice-known2 .given (c .before .before .l
 put-requires : tie.Need-put-requires Inv-loop μ-loop
 put-requires c κs =
     let l = c .before .before .before .loop in
-    (left-ready (l .inv .1) _ _ (each-next frameFields _ (l .rank) (c .before .before .loop-test .taken)), omega arith)
+    (left-ready (l .inv .1) _ _ (fields-next _ (l .rank) _ (c .before .before .loop-test .taken)), omega arith)
 
 add-rank : tie.Need-add-rank Inv-loop μ-loop
 add-rank c = search needs
@@ -45,13 +46,13 @@ loop-again : tie.Need-loop-again Inv-loop μ-loop
 loop-again c =
     let l = c .before .before .before .before .before .before .loop in
     let t = c .before .before .before .before .before .loop-test .taken in
-    (omega arith, left-step (l .inv .1) _ _ (each-next frameFields _ (l .rank) t) (c .before .before .put .ensures))
+    (omega arith, left-step (l .inv .1) _ _ (fields-next _ (l .rank) _ t) (c .before .before .put .ensures))
 
 same-length : tie.Need-same-length Inv-loop μ-loop
 same-length c = c .before .loop .inv .1 .long
 
 returns : tie.Need-returns Inv-loop μ-loop
-returns c = left-end (c .before .loop .inv .1) (each-end frameFields _ _ (c .loop-test .left))
+returns c = left-end (c .before .loop .inv .1) (fields-end _ _ _ (c .loop-test .left))
 
 pub put-order-spec : {M : Type 1} → statement M
 put-order-spec =

@@ -1,13 +1,12 @@
 -- A row: the field of its count, then its entries, a part of the label room from v * w on.
 use Prim.Native.Nat.{ℕ, _+_, _-_, _*_}
-use mathlib.Core.Path.{_≡_, sym, ap}
+use mathlib.Core.Path.{sym}
 use mathlib.Core.List.{List, [], _∷_, append-nil}
 use native.Mathlib.Omega.{arith}
 use borrow.Author.Needs.{needs}
 use denote.Ref.{now}
 use lib.ListN.{getD, take, drop}
-use native.Mathlib.Nat.{add-sub-cancel-left}
-use Rattle.rows.specs.Rooms.{rowAt, part}
+use Rattle.rows.proofs.Laws.{cut}
 use Rattle.file.specs.Bits.{field}
 use Rattle.file.specs.Layout.{rowFields, entryFields}
 use Rattle.file.specs.Pen.{Ready, Left}
@@ -15,16 +14,11 @@ use Rattle.file.proofs.Pen.{left-start, left-step, next-ready, next-ste
 use Rattle.file.proofs.put.put_row.Statement.{statement}
 use Rattle.file.proofs.put.put_row.Tie as tie
 
--- the part of the label room, as the row that it is
-used : (w : ℕ) (labels : List ℕ) (v count : ℕ) → take (v * w + count - v * w) (drop (v * w) labels) ≡ part w labels v count
-unfolding part
-used w labels v count = ap (λ (k : ℕ). take k (drop (v * w) labels)) (add-sub-cancel-left (v * w) count)
-
 begun : {o : List ℕ} {p : _} (w : ℕ) (labels counts : List ℕ) (v : ℕ) → Ready o p (rowFields w labels counts v) →
     let c : ℕ = getD counts v 0 in
     Left o p (rowFields w labels counts v) o p (field c 9 ∷ entryFields (take (v * w + c - v * w) (drop (v * w) labels)))
-unfolding rowFields rowAt
-begun w labels counts v r = rw (used w labels v (getD counts v 0)) (left-start r)
+unfolding rowFields
+begun w labels counts v r = rw (cut w labels counts v) (left-start r)
 
 mul-count : tie.Need-mul-count
 mul-count c = search needs

@@ -3,11 +3,9 @@
 use Prim.Native.Nat.{_-_, _≤_, _<_}
 use native.Mathlib.Omega.{arith}
 use borrow.Author.Needs.{needs}
-use denote.Ref.{now}
-use native.Mathlib.Numerals.{add-one}
 use native.Mathlib.Nat.{sub-zero}
 use Rattle.file.specs.Layout.{rowsFields}
-use Rattle.file.proofs.LayoutLaws.{rows-next, rows-end}
+use Rattle.file.proofs.LayoutLaws.{fields-next, fields-end}
 use Rattle.file.specs.Pen.{Left}
 use Rattle.file.proofs.Pen.{left-start, left-ready, left-step, left-end}
 use Rattle.file.proofs.put.put_rows.Statement.{statement}
@@ -28,7 +26,7 @@ put-row-requires c κs =
     let a = c .before .before .before .before .before .before .args in
     let l = c .before .before .loop in
     let t : l .v < a .n = c .before .loop-test .taken in (
-      left-ready (l .inv .1) _ _ (rows-next (a .w) (now (a .labels)) (now (a .counts)) (a .n) (l .v) (add-one (l .v)) t),
+      left-ready (l .inv .1) _ _ (fields-next _ (l .v) _ t),
       c .before .before .before .before .before .before .pre .1 (l .v) t,
     )
 
@@ -40,16 +38,15 @@ loop-less c = omega arith
 
 loop-again : tie.Need-loop-again Inv-loop μ-loop
 loop-again c =
-    let a = c .before .before .before .before .before .before .before .before .before .args in
     let l = c .before .before .before .before .before .loop in
     let t = c .before .before .before .before .loop-test .taken in
-    (omega arith, left-step (l .inv .1) _ _ (rows-next (a .w) (now (a .labels)) (now (a .counts)) (a .n) (l .v) (add-one (l .v)) t) (c .before .before .put-row .ensures))
+    (omega arith, left-step (l .inv .1) _ _ (fields-next _ (l .v) _ t) (c .before .before .put-row .ensures))
 
 same-length : tie.Need-same-length Inv-loop μ-loop
 same-length c = c .before .loop .inv .1 .long
 
 returns : tie.Need-returns Inv-loop μ-loop
-returns c = left-end (c .before .loop .inv .1) (rows-end _ _ _ _ _ (c .loop-test .left))
+returns c = left-end (c .before .loop .inv .1) (fields-end _ _ _ (c .loop-test .left))
 
 pub put-rows-spec : {M : Type 1} → statement M
 put-rows-spec =

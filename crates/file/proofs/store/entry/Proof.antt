@@ -1,5 +1,4 @@
 -- `entry` stores what the entry's layout makes of the two fields.
-use Prim.Native.Nat.{ℕ, _/_, _%_}
 use mathlib.Core.Path.{ap, ap₂, _∙_}
 use native.Mathlib.Omega.{arith}
 use borrow.Author.Needs.{needs}
@@ -7,7 +6,7 @@ use lib.ListN.{set}
 use Rattle.rows.specs.Entry.{entryOf}
 use Rattle.file.specs.Bits.{byteLen}
 use Rattle.file.specs.Reader.{entryAt}
-use Rattle.file.proofs.Bits.{pair-rank, pair-joins}
+use Rattle.file.proofs.Bits.{pair-parts}
 use Rattle.file.proofs.store.entry.Statement.{statement}
 use Rattle.file.proofs.store.entry.Tie as tie
 
@@ -30,11 +29,8 @@ returns : tie.Need-returns
 unfolding entryAt byteLen
 returns c =
     let a = c .before .before .before .before .args in
-    let p = c .before .pair .ensures in
-    ap (set (a .labels .now) (a .at))
-    (c .entry-of .ensures
-    ∙ ap₂ entryOf (ap (λ (x : ℕ). x / 4096) p ∙ pair-rank _ (a .p) (omega (arith, c .before .before .before .before .pre .1)))
-    (ap (λ (x : ℕ). x % 4096) p ∙ pair-joins _ (a .p)))
+    let (rank, joins) = pair-parts _ (a .p) (omega (arith, c .before .before .before .before .pre .1)) (c .before .pair .ensures) in
+    ap (set (a .labels .now) (a .at)) (c .entry-of .ensures ∙ ap₂ entryOf rank joins)
 
 pub entry-spec : {M : Type 1} → statement M
 entry-spec =

@@ -45,31 +45,30 @@ mul-counts c = omega arith
 slice-write-counts : tie.Need-slice-write-counts Inv-loop μ-loop
 slice-write-counts c = omega arith
 
-row-requires : tie.Need-row-requires Inv-loop μ-loop
-row-requires c κs =
-    let g = c .before in
-    let l = g .before .before in
-    next-row (l .before .before .before .before .pre) (l .loop .inv) (g .before .loop-test .taken) (g .get .ensures)
-
--- the row just stored
-stored : (c : tie.After-slice-known3 Inv-loop μ-loop) →
-    let g = c .before .before .before .before in
+-- the row of the count just read
+counted : (g : tie.After-get Inv-loop μ-loop) →
     let l = g .before .before .loop in
     let a = g .before .before .before .before .before .before .args in
     Row (a .bytes .now) (l .p) (g .get .result) (a .w) (length (l .labels)) (l .base)
-stored c =
-    let g = c .before .before .before .before in
+counted g =
     let l = g .before .before in
     next-row (l .before .before .before .before .pre) (l .loop .inv) (g .before .loop-test .taken) (g .get .ensures)
 
+row-requires : tie.Need-row-requires Inv-loop μ-loop
+row-requires c κs = counted (c .before)
+
 add-p-2 : tie.Need-add-p-2 Inv-loop μ-loop
-add-p-2 c = omega (arith, stored c .near)
+add-p-2 c = omega (arith, counted (c .before .before .before .before) .near)
 
 mul-p-2 : tie.Need-mul-p-2 Inv-loop μ-loop
-mul-p-2 c = omega (arith, stored c .fits, stored c .wide)
+mul-p-2 c =
+    let row = counted (c .before .before .before .before) in
+    omega (arith, row .fits, row .wide)
 
 add-p-3 : tie.Need-add-p-3 Inv-loop μ-loop
-add-p-3 c = omega (arith, stored c .near, stored c .fits, stored c .wide)
+add-p-3 c =
+    let row = counted (c .before .before .before .before) in
+    omega (arith, row .near, row .fits, row .wide)
 
 add-base : tie.Need-add-base Inv-loop μ-loop
 add-base c =

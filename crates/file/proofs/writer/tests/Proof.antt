@@ -7,7 +7,7 @@ use borrow.Author.Needs.{needs}
 use borrow.Author.Tests.{not-true, not-false}
 use denote.Ref.{now}
 use lib.ListN.{length}
-use Rattle.refusal.specs.Numbers.{LENGTH}
+use Rattle.refusal.specs.Numbers.{SIZE, LENGTH}
 use Rattle.refusal.specs.Tests.{_then_, refusal}
 use Rattle.refusal.specs.declared.Verdict.{Verdict}
 use Rattle.refusal.specs.declared.Verdict.the-variants.{Refused}
@@ -28,7 +28,7 @@ module _ (n k w : ℕ) (O labels counts : List ℕ) (s : indexSizes n k w ≡ tr
   at-length : lengthsFit n w (length O) (length labels) (length counts) ≡ false
       → writeTests n k w O labels counts ≡ Refused (refusal LENGTH 0)
   unfolding writeTests
-  at-length l = after-fine _ (test-fine 1 0 s) ∙ after-refused _ (test-refused 2 0 l)
+  at-length l = after-fine _ (test-fine SIZE 0 s) ∙ after-refused _ (test-refused LENGTH 0 l)
 
   at-order : lengthsFit n w (length O) (length labels) (length counts) ≡ true
       → writeTests n k w O labels counts ≡ (checkOrder n O then checkRows k n w labels counts)
@@ -38,7 +38,7 @@ module _ (n k w : ℕ) (O labels counts : List ℕ) (s : indexSizes n k w ≡ tr
       let o : checkOrder n O ≡ orderTest n O =
       order-alone n O (z .some-frames) (z .frames) (fit-lengths n w (length O) (length labels) (length counts) l .0) in
       let r : checkRows k n w labels counts ≡ rowsTest k n w labels counts = rows-alone k n w labels counts (rooms-in n k w O labels counts s l) in
-      after-fine _ (test-fine 1 0 s) ∙ after-fine _ (test-fine 2 0 l) ∙ ap₂ (λ (a b : Verdict). a then b) (sym o) (sym r)
+      after-fine _ (test-fine SIZE 0 s) ∙ after-fine _ (test-fine LENGTH 0 l) ∙ ap₂ (λ (a b : Verdict). a then b) (sym o) (sym r)
 
 sizes-fit-requires : tie.Need-sizes-fit-requires
 sizes-fit-requires c κs = search needs
@@ -50,7 +50,7 @@ returns : tie.Need-returns
 unfolding writeTests
 returns c =
     c .refused .ensures
-    ∙ sym (after-refused _ (test-refused 1 0 (sym (c .before .before .sizes-fit .ensures) ∙ not-true _ (c .before .if1 .taken))))
+    ∙ sym (after-refused _ (test-refused SIZE 0 (sym (c .before .before .sizes-fit .ensures) ∙ not-true _ (c .before .if1 .taken))))
 
 -- 1 passed
 one-passed : (c : tie.Else1) → let a = c .before .before .before .before .before .args in indexSizes (a .n) (a .k) (a .w) ≡ true

@@ -59,7 +59,7 @@ returns : tie.Need-returns
 returns c =
     let start = c .before .before .before .before .before .before .before .before .pre in
     let low = start .1 .from _ (start .0 .frame) in
-    (sym (holds-at _ _ _ _ _ low (c .before .before .if1 .taken) (c .if2 .taken)), cursors-on (start .1) _ _ (start .0 .few) (omega arith))
+    (sym (holds-at _ _ _ _ _ low (c .before .before .if1 .taken) (c .if2 .taken)), cursors-on (start .1) _ _ (start .0 .low) (omega arith))
 
 mul-from : tie.Need-mul-from
 mul-from c = search needs
@@ -92,7 +92,7 @@ returns-2 : tie.Need-returns-2
 returns-2 c =
     let start = c .before .before .before .before .before .before .before .before .before .pre in (
       sym (holds-found _ _ _ _ _ (start .0 .rise) (c .before .find .ensures) (c .if3 .taken)),
-      cursors-on (start .1) _ _ (start .0 .few) (omega (arith, found-low _ _ _ (c .before .find .ensures))),
+      cursors-on (start .1) _ _ (start .0 .low) (omega (arith, found-low _ _ _ (c .before .find .ensures))),
     )
 
 returns-3 : tie.Need-returns-3

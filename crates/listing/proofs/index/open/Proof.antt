@@ -1,13 +1,10 @@
 -- The header, then the test on the frames, then the rooms are cut to that number of frames and the reader decides.
 use native.Mathlib.Omega.{arith}
-use mathlib.Core.Path.{sym, ap, _∙_}
+use mathlib.Core.Path.{sym, _∙_}
 use lib.Seq.{length-take-le}
 use borrow.Author.Needs.{needs}
-use Rattle.file.specs.declared.Opened.{Opened}
-use Rattle.file.specs.Reader.{told}
-use Rattle.listing.specs.Lines.{refusedText}
 use Rattle.listing.proofs.TextLaws.{put-as}
-use Rattle.listing.proofs.IndexLaws.{header-refused, over-frames, within-frames, cut-rooms, cut-text}
+use Rattle.listing.proofs.IndexLaws.{refused-text, header-refused, over-frames, within-frames, cut-rooms, cut-text}
 use Rattle.listing.proofs.index.open.Statement.{statement}
 use Rattle.listing.proofs.index.open.Tie as tie
 
@@ -30,15 +27,12 @@ same-length : tie.Need-same-length
 same-length c = search needs
 
 returns : tie.Need-returns
-unfolding told
 returns c =
     let r = c .before .before .refused in
     let m = c .before .before .before in
     let answer = m .before .before .enum-told .given .1 in
     let call = m .before .before .before .before .header in (
-      put-as
-          (ap refusedText (m .number-of .ensures ∙ ap (λ (a : Opened). told a .number) answer) ∙ header-refused _ (call .ensures .0) answer)
-          (r .ensures .0),
+      put-as (refused-text (m .number-of .ensures) answer ∙ header-refused _ (call .ensures .0) answer) (r .ensures .0),
       omega (arith, r .ensures .1),
     )
 
@@ -55,8 +49,8 @@ returns-2 c =
     let o = t .before .before in
     (put-as (over-frames _ (o .before .before .header .ensures .0) (o .opened .given .1) (t .if1 .taken)) (r .ensures .0), omega (arith, r .ensures .1))
 
-mul-places : tie.Need-mul-places
-mul-places c = search needs
+mul-label-places : tie.Need-mul-label-places
+mul-label-places c = search needs
 
 slice-relend-prefix-read : tie.Need-slice-relend-prefix-read
 slice-relend-prefix-read c = search needs
@@ -122,7 +116,7 @@ open-spec =
     refused-requires-2
     same-length-2
     returns-2
-    mul-places
+    mul-label-places
     slice-relend-prefix-read
     slice-aggregate-read
     slice-relend-prefix-read-2

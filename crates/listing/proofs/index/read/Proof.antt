@@ -1,12 +1,9 @@
 -- The reader's outcome decides: a refusal is told by its number, an index is shown from the rooms that the reader filled.
 use native.Mathlib.Omega.{arith}
-use mathlib.Core.Path.{ap, _∙_}
+use mathlib.Core.Path.{_∙_}
 use borrow.Author.Needs.{needs}
-use Rattle.file.specs.declared.Opened.{Opened}
-use Rattle.file.specs.Reader.{told}
-use Rattle.listing.specs.Lines.{refusedText}
 use Rattle.listing.proofs.TextLaws.{put-as}
-use Rattle.listing.proofs.IndexLaws.{openedText, read-found}
+use Rattle.listing.proofs.IndexLaws.{openedText, refused-text, read-found}
 use Rattle.listing.proofs.index.read.Statement.{statement}
 use Rattle.listing.proofs.index.read.Tie as tie
 
@@ -38,15 +35,13 @@ same-length-4 : tie.Need-same-length-4
 same-length-4 c = search needs
 
 returns : tie.Need-returns
-unfolding told openedText
+unfolding openedText
 returns c =
     let r = c .before .before .refused in
     let m = c .before .before .before in
     let answer = m .before .before .enum-told .given .1 in
     let call = m .before .before .before .before .before .before .before .before .before .before .read in (
-      put-as
-          (ap refusedText (m .number-of .ensures ∙ ap (λ (a : Opened). told a .number) answer) ∙ read-found _ _ _ _ (call .ensures .0) answer)
-          (r .ensures .0),
+      put-as (refused-text (m .number-of .ensures) answer ∙ read-found _ _ _ _ (call .ensures .0) answer) (r .ensures .0),
       omega (arith, r .ensures .1),
     )
 

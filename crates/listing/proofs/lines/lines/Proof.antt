@@ -4,9 +4,9 @@ use Prim.Native.Nat.{ℕ, _+_, _-_, _*_, _≤_, _<_}
 use native.Mathlib.Omega.{arith}
 use mathlib.Core.Path.{_≡_, sym, ap, subst, _∙_}
 use mathlib.Core.List.{List}
-use lib.ListN.{length, getD}
+use lib.ListN.{length}
 use denote.Ref.{now}
-use Rattle.rows.specs.Entry.{rankOf}
+use Rattle.rows.specs.Entry.{RanksIn}
 use Rattle.rows.specs.Rooms.{rowAt}
 use Rattle.listing.specs.Text.{Put}
 use Rattle.listing.specs.Lines.{WIDTH, texts, lineText, linesText}
@@ -55,9 +55,7 @@ line-requires c κs =
     let inside : l .v < length (s .args .counts .now) = c .before .before .before .loop-test .taken in
     let same = row-is (c .before) in (
       omega (arith, ap length same, shown-few (s .pre .0) (l .v) inside, l .inv .1 .long, l .inv .2, s .pre .1),
-      λ i k.
-          subst (λ (row : List ℕ). rankOf (getD row i 0) < length (s .args .order .now)) (sym same)
-          (shown-ranks (s .pre .0) (l .v) inside i (subst (λ (row : List ℕ). i < length row) same k)),
+      subst (λ (row : List ℕ). RanksIn row (s .args .order .now)) (sym same) (shown-ranks (s .pre .0) (l .v) inside),
     )
 
 add-v : tie.Need-add-v Inv-loop μ-loop

@@ -6,7 +6,7 @@ use lib.ListN.{take}
 use lib.Seq.{length-take-le}
 use borrow.Author.Needs.{needs}
 use Rattle.listing.specs.Text.{decimal}
-use Rattle.listing.proofs.TextLaws.{put-as, few-places, decimal-is}
+use Rattle.listing.proofs.TextLaws.{put-as, few-digits, decimal-is}
 use Rattle.listing.proofs.text.number.Statement.{statement}
 use Rattle.listing.proofs.text.number.Tie as tie
 
@@ -22,7 +22,7 @@ slice-aggregate-bytes c = search needs
 bytes-requires : tie.Need-bytes-requires
 bytes-requires c κs =
     let call : _ = c .before .before .decimal in
-    let most : call .result ≤ 20 = few-places (c .before .before .before .before .before .args .x) (call .result) (omega arith) (call .ensures .1 .0) in
+    let most : call .result ≤ 20 = few-digits (c .before .before .before .before .before .args .x) (call .result) (omega arith) (call .ensures .1 .0) in
     omega (arith, length-take-le (call .result) (call .last .1 .0) (call .ensures .0 .0))
 
 same-length : tie.Need-same-length
@@ -33,7 +33,7 @@ returns c =
     let start : _ = c .before .before .before .before .before .before .before .before in
     let call : _ = c .before .before .before .before .before .decimal in
     let done : _ = c .before .before .bytes in
-    let most : call .result ≤ 20 = few-places (start .args .x) (call .result) (omega arith) (call .ensures .1 .0) in
+    let most : call .result ≤ 20 = few-digits (start .args .x) (call .result) (omega arith) (call .ensures .1 .0) in
     let spelt : take (call .result) (call .last .1 .0) ≡ decimal (start .args .x) =
     call .ensures .1 .1 ∙ decimal-is (start .args .x) (call .result) most (call .ensures .1 .0) in (
       put-as spelt (done .ensures),

@@ -3,7 +3,7 @@ use mathlib.Core.Path.{sym, _∙_}
 use borrow.Author.Needs.{needs}
 use denote.Ref.{now}
 use Rattle.rows.specs.Rooms.{Rooms}
-use Rattle.rows.proofs.RoomLaws.{fine-rooms, rooms-refused, rows-alone, rows-fine, rows-refused}
+use Rattle.rows.proofs.RoomLaws.{fine-rooms, rooms-refused, rows-fine, rows-refused}
 use Rattle.rows.proofs.check.check_rows.Statement.{statement}
 use Rattle.rows.proofs.check.check_rows.Tie as tie
 
@@ -35,12 +35,7 @@ first-unsound-requires : tie.Need-first-unsound-requires
 first-unsound-requires c κs = rooms c
 
 returns-2 : tie.Need-returns-2
-returns-2 c =
-    let a = c .before .before .before .before .before .before .before .args in
-    sym
-    (rows-alone (a .bound) (a .n) (a .w) (now (a .labels)) (now (a .counts)) (rooms (c .before .before))
-    ∙ rows-fine (a .bound) (a .n) (a .w) (now (a .labels)) (now (a .counts))
-    (sym (c .before .first-unsound .ensures) ∙ c .if1 .taken))
+returns-2 c = sym (rows-fine _ (rooms (c .before .before)) (c .before .first-unsound .ensures) (c .if1 .taken))
 
 refused-requires : tie.Need-refused-requires
 refused-requires c κs = search needs
@@ -48,11 +43,7 @@ refused-requires c κs = search needs
 returns-3 : tie.Need-returns-3
 returns-3 c =
     let d = c .before .before in
-    let a = d .before .before .before .before .before .before .args in
-    c .refused .ensures
-    ∙ sym
-    (rows-alone (a .bound) (a .n) (a .w) (now (a .labels)) (now (a .counts)) (rooms (d .before))
-    ∙ rows-refused (a .bound) (a .n) (a .w) (now (a .labels)) (now (a .counts)) (d .first-unsound .ensures) (c .before .if1 .left))
+    c .refused .ensures ∙ sym (rows-refused _ (rooms (d .before)) (d .first-unsound .ensures) (c .before .if1 .left))
 
 pub check-rows-spec : {M : Type 1} → statement M
 check-rows-spec =

@@ -1,17 +1,14 @@
 -- Where the check refuses, the empty part at the front is what the definition says; where it does not, the row lies in the
 -- room, and its part is the used part of the row.
-use Prim.Native.Nat.{_+_, _*_}
+use Prim.Native.Nat.{ℕ, _+_, _*_}
 use mathlib.Core.Path.{sym, ap, _∙_}
-use mathlib.Core.List.{[]}
 use native.Mathlib.Omega.{arith}
 use borrow.Author.Needs.{needs}
 use denote.Ref.{now, ptr}
-use Rattle.refusal.specs.declared.Verdict.{Verdict}
+use Rattle.refusal.specs.Tests.{ifFine}
 use Rattle.rows.specs.Entry.{entryBytes}
-use Rattle.rows.specs.Lookup.{ifFine, rowOf, rowStart}
-use Rattle.rows.specs.Rooms.{RowLies}
-use Rattle.rows.specs.Rooms.{rowAt}
-use Rattle.rows.proofs.PairLaws.{checked-row}
+use Rattle.rows.specs.Rooms.{RowLies, rowAt}
+use Rattle.rows.proofs.PairLaws.{checked-row, row-by}
 use Rattle.rows.proofs.lookup.row.Statement.{statement}
 use Rattle.rows.proofs.lookup.row.Tie as tie
 
@@ -40,14 +37,12 @@ part-result-end : tie.Need-part-result-end
 part-result-end c = search needs
 
 returns : tie.Need-returns
-unfolding rowOf rowStart ifFine
+unfolding ifFine
 returns c =
     let a = c .before .before .before .before .before .before .args in
     let p = ptr (a .labels) in
-    let e = sym (c .before .before .before .check-row .ensures) ∙ c .before .enum-told2 .given .1 in (
-      sym (ap (λ (x : Verdict). ifFine x (rowAt (a .w) (now (a .labels)) (now (a .counts)) (a .v)) []) e),
-      sym (ap (λ (x : Verdict). (p .0, ifFine x (a .v * a .w) 0 * entryBytes + p .1)) e),
-    )
+    let (part, start) = row-by _ _ _ _ _ (sym (c .before .before .before .check-row .ensures) ∙ c .before .enum-told2 .given .1) in
+    (sym part, sym (ap (λ (s : ℕ). (p .0, s * entryBytes + p .1)) start))
 
 mul-count : tie.Need-mul-count
 mul-count c = record { fits = omega (arith, row c .counted) }
@@ -62,15 +57,13 @@ cut-requires : tie.Need-cut-requires
 cut-requires c κs = row (c .before) .lies
 
 returns-2 : tie.Need-returns-2
-unfolding rowOf rowStart ifFine rowAt
+unfolding ifFine rowAt
 returns-2 c =
     let d = c .before .before in
     let a = d .before .before .before .before .before .args in
     let p = ptr (a .labels) in
-    let e = sym (d .before .before .check-row .ensures) ∙ d .enum-told .given .1 in (
-      c .cut .ensures .0 ∙ sym (ap (λ (x : Verdict). ifFine x (rowAt (a .w) (now (a .labels)) (now (a .counts)) (a .v)) []) e),
-      c .cut .ensures .1 ∙ sym (ap (λ (x : Verdict). (p .0, ifFine x (a .v * a .w) 0 * entryBytes + p .1)) e),
-    )
+    let (part, start) = row-by _ _ _ _ _ (sym (d .before .before .check-row .ensures) ∙ d .enum-told .given .1) in
+    (c .cut .ensures .0 ∙ sym part, c .cut .ensures .1 ∙ sym (ap (λ (s : ℕ). (p .0, s * entryBytes + p .1)) start))
 
 pub row-spec : {M : Type 1} → statement M
 row-spec =

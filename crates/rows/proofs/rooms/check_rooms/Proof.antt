@@ -32,8 +32,8 @@ sized c =
     let a = c .before .before .before .before .args in
     sizes-held (a .n) (a .w) (sym (c .before .sizes-fit .ensures) ∙ not-false _ (c .if1 .left))
 
-mul-places : tie.Need-mul-places
-mul-places c =
+mul-label-places : tie.Need-mul-label-places
+mul-label-places c =
     let a = c .before .before .before .before .args in
     let s = sized c in
     record { fits = omega (arith, mul-le-mul {n₁ = a .n} {m₁ = a .w} {n₂ = 4096} {m₂ = 256} (s .frames) (s .width)) }
@@ -69,7 +69,7 @@ check-rooms-spec =
     sizes-fit-requires
     refused-requires
     returns
-    mul-places
+    mul-label-places
     refused-requires-2
     returns-2
     refused-requires-3

@@ -8,7 +8,7 @@ use borrow.Author.Needs.{needs}
 use lib.ListN.{length}
 use Rattle.basics.specs.Places.{some}
 use Rattle.rows.specs.Rooms.{faultyEntry, rowAt}
-use Rattle.rows.proofs.Laws.{row-inside}
+use Rattle.rows.proofs.Laws.{row-ends}
 use Rattle.rows.proofs.RoomLaws.{count-unsound, sound-by-entries}
 use Rattle.rows.proofs.sound.sound_row.Statement.{statement}
 use Rattle.rows.proofs.sound.sound_row.Tie as tie
@@ -28,8 +28,7 @@ returns c = sym (count-unsound _ _ _ _ _ _ (c .if1 .taken))
 cut-requires : tie.Need-cut-requires
 cut-requires c κs =
     let s = c .before .before .before .before in
-    let w : ℕ = s .args .w in
-    omega (arith, s .pre .0 .places, row-inside {c = w} {w = w} (s .pre .1) (omega arith), c .if1 .left)
+    omega (arith, row-ends {c = s .args .w} (s .pre .0 .places) (s .pre .1) (omega arith), c .if1 .left)
 
 sound-part-requires : tie.Need-sound-part-requires
 sound-part-requires c κs = search needs

@@ -13,8 +13,8 @@ use Rattle.basics.specs.Places.{first}
 use Rattle.basics.proofs.Laws.{read-off, first-here, first-step, first-over, not-of-true}
 use Rattle.rows.specs.Rooms.{Rooms, unsound}
 use Rattle.rows.specs.Spread.{farthest, spreadTold}
-use Rattle.rows.proofs.Laws.{row-inside}
-use Rattle.rows.proofs.RoomLaws.{fine-rooms, rooms-refused, rows-alone, rows-fine, rows-refused}
+use Rattle.rows.proofs.Laws.{row-ends}
+use Rattle.rows.proofs.RoomLaws.{fine-rooms, rooms-refused, rows-fine, rows-refused}
 use Rattle.rows.proofs.SpreadLaws.{sound-front, farthest-small, spread-fine, spread-refused}
 use Rattle.rows.proofs.spread.spread.Statement.{statement}
 use Rattle.rows.proofs.spread.spread.Tie as tie
@@ -56,12 +56,8 @@ loop-holds c = (
 
 front-joins-requires : tie.Need-front-joins-requires Inv-loop μ-loop
 front-joins-requires c κs =
-    let a = c .before .before .before .before .before .before .before .args in
-    let l = c .before .loop in
-    let r = l .inv .0 in (
-      omega (arith, r .each),
-      omega (arith, r .places, row-inside {v = l .v} {n = a .n} {c = 1} {w = a .w} (c .loop-test .taken) (r .sizes .some-width)),
-    )
+    let r = c .before .loop .inv .0 in
+    (omega (arith, r .each), omega (arith, row-ends (r .places) (c .loop-test .taken) (r .sizes .some-width)))
 
 sound-row-requires : tie.Need-sound-row-requires Inv-loop μ-loop
 sound-row-requires c κs = (c .before .before .loop .inv .0, c .before .loop-test .taken)
@@ -71,8 +67,7 @@ returns-2 c =
     let a = c .before .before .before .before .before .before .before .before .before .before .args in
     let l = c .before .before .before .before .loop in
     read-off spreadTold (spread-refused (a .n) (a .w) (now (a .labels)) (now (a .counts))
-    (rows-alone (a .n) (a .n) (a .w) (now (a .labels)) (now (a .counts)) (l .inv .0)
-    ∙ rows-refused (a .n) (a .n) (a .w) (now (a .labels)) (now (a .counts))
+    (rows-refused (a .n) (l .inv .0)
     (sym (first-here _ _ _ (c .before .before .before .loop-test .taken) (ap not (sym (c .before .sound-row .ensures)) ∙ c .if1 .taken)) ∙ l .inv .2)
     (omega arith)))
 
@@ -112,8 +107,7 @@ returns-3 c =
     let l = c .before .loop in
     let e : l .v ≡ a .n = omega arith in
     read-off spreadTold (spread-fine (a .n) (a .w) (now (a .labels)) (now (a .counts))
-    (rows-alone (a .n) (a .n) (a .w) (now (a .labels)) (now (a .counts)) (l .inv .0)
-    ∙ rows-fine (a .n) (a .n) (a .w) (now (a .labels)) (now (a .counts)) (sym (l .inv .2) ∙ first-over _ _ _ (c .loop-test .left) ∙ e))
+    (rows-fine (a .n) (l .inv .0) (sym (first-over _ _ _ (c .loop-test .left)) ∙ l .inv .2) e)
     (l .inv .3 ∙ ap (λ (v : ℕ). farthest (a .w) (now (a .labels)) (now (a .counts)) v) e))
 
 pub spread-spec : {M : Type 1} → statement M
