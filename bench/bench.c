@@ -250,7 +250,7 @@ static void run(const char *block) {
         search_ratio = faster;
         search_block = block;
     }
-    printf("| %s | pair beside a search (%ld joins) | %s | %.0f times as fast | |\n", block, apart, span(per_pair), faster);
+    printf("| %s | pair beside a search (400 pairs, %ld joins in all) | %s | %.0f times as fast | |\n", block, apart, span(per_pair), faster);
     ROW_OF("spread", 20, bad[0] = seam_spread(N, W, labels[0], N * W, counts[0], N, &sp[0], &place),
            bad[1] = c_spread(N, W, labels[0], N * W, counts[0], N, &sp[1]),
            bad[2] = r_spread(N, W, labels[0], N * W, counts[0], N, &sp[2]));

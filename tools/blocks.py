@@ -1,8 +1,9 @@
 #!/usr/bin/env python3
-"""Prints what crates/blocks must print, from the paper alone: the same random blocks drawn anew, their builds and pairs
-counted. No walk is made: a build is refused exactly where the row rule, over plain breadth-first counts, gives some frame over W
-entries. On the grid the frames on a shortest chain between two frames are those of the rectangle that the two span, so that a row
-holds the hubs that have the lowest rank in theirs. Run it at the root: python3 tools/blocks.py > crates/blocks/stdout
+"""Prints what crates/blocks must print, from the paper alone: the same random blocks drawn anew, their builds, entries and
+pairs counted. No walk is made: by the row rule a row holds a hub exactly if it has the lowest rank of all frames on the shortest
+chains between the two, and a build is refused exactly where some row has over W entries. These frames come from plain breadth-first
+searches; on the grid they are those of the rectangle that the two span. Run it at the root:
+python3 tools/blocks.py > crates/blocks/stdout
 """
 from collections import deque
 
@@ -44,32 +45,37 @@ def drawn(n, kind, seed):
     return lists
 
 
-def distances(lists, s):
-    d = {s: 0}
+def between(lists, s):
+    """For each frame that a chain joins to s, the frames on a shortest chain between the two, as bits."""
+    d, on = {s: 0}, {s: 1 << s}
     queue = deque([s])
     while queue:
         u = queue.popleft()
         for v in lists[u]:
             if v not in d:
                 d[v] = d[u] + 1
+                on[v] = 1 << v
                 queue.append(v)
-    return d
+            if d[v] == d[u] + 1:
+                on[v] |= on[u]
+    return on
 
 
-def longest_rows(lists, order):
-    """The entries of the longest row at each stop, hub by hub."""
-    d = [distances(lists, v) for v in range(len(lists))]
-    counts, longest = [0] * len(lists), [0]
-    for r, hub in enumerate(order):
-        lower = [w for w in order[:r] if w in d[hub]]
-        for v, joins in d[hub].items():
-            counts[v] += not any(d[hub][w] + d[w][v] == joins for w in lower)
+def rows(chains, order):
+    """The entries of all rows, and those of the longest, at each stop."""
+    counts, lower = [0] * len(order), 0
+    totals, longest = [0], [0]
+    for hub in order:
+        for v, on in chains[hub].items():
+            counts[v] += not on & lower
+        lower |= 1 << hub
+        totals.append(sum(counts))
         longest.append(max(counts))
-    return longest
+    return totals, longest
 
 
 def blocks():
-    builds = refused = pairs = 0
+    builds = refused = entries = pairs = 0
     for block in range(1, BLOCKS + 1):
         one = roll(block)
         two = roll(one)
@@ -78,13 +84,15 @@ def blocks():
         w = min(n, 1 + two % 16) if block % 4 == 3 else n
         stops = {0, 1, 2, n // 2, n - 1, n} & set(range(n + 1))
         lists = drawn(n, three % 6, three)
+        chains = [between(lists, v) for v in range(n)]
         for order in shuffled(n, three // 2), by_degree(lists):
-            longest = longest_rows(lists, order) if w < n else range(n + 1)
-            full = sum(longest[k] > w for k in stops)
-            refused += full
-            builds += len(stops) - full
-            pairs += (len(stops) - full) * n * n
-    print(f"blocks {BLOCKS} builds {builds} refused {refused} pairs {pairs}\nall equal")
+            totals, longest = rows(chains, order)
+            fitting = [k for k in stops if longest[k] <= w]
+            builds += len(fitting)
+            refused += len(stops) - len(fitting)
+            entries += sum(totals[k] for k in fitting)
+            pairs += len(fitting) * n * n
+    print(f"blocks {BLOCKS} builds {builds} refused {refused} entries {entries} pairs {pairs}\nall equal")
 
 
 def grid_rows(rank, most):

@@ -1,10 +1,12 @@
 #!/usr/bin/env python3
 """Writes the data/ and the stdout of crates/cases, and the expected files of crates/seamlist and crates/deck, from the
 paper alone: the rows by the row rule over plain breadth-first counts, the file by its layout, the refusals by the order
-of the reader's tests. It shares nothing with the library. Run it at the root, then look at what changed.
+of the reader's tests. It shares nothing with the library. Run it at the root, then look at what changed; with a folder as its
+argument it writes them below that instead.
 """
 import os
 import shutil
+import sys
 from collections import deque
 
 
@@ -242,27 +244,29 @@ link 0-0: refused 4 at 0
 """
 
 
-def main():
-    folder = "crates/cases/data"
-    shutil.rmtree(folder, ignore_errors=True)
-    os.makedirs(folder)
+def main(root):
+    crates = os.path.join(root, "crates")
+    shutil.rmtree(crates + "/cases/data", ignore_errors=True)
+    for folder in "cases/data", "seamlist", "deck":
+        os.makedirs("%s/%s" % (crates, folder), exist_ok=True)
     text = UNSTARRED
     made = list(files())
     assert len(made) <= 100
     for number, (what, data) in enumerate(made):
-        with open("%s/%02d" % (folder, number), "wb") as out:
+        with open("%s/cases/data/%02d" % (crates, number), "wb") as out:
             out.write(data)
         lines, place = listing(data)
         text += "%02d\n%s" % (number, lines) + ("" if place is None else "at %d\n" % place)
         print("%02d  %s: %s" % (number, what, lines.split("\n")[0] + ("" if place is None else " at %d" % place)))
-    with open("crates/cases/stdout", "w") as out:
+    with open(crates + "/cases/stdout", "w") as out:
         out.write(text)
-    with open("crates/seamlist/stdin", "wb") as out:
+    with open(crates + "/seamlist/stdin", "wb") as out:
         out.write(made[0][1])
-    with open("crates/seamlist/stdout", "w") as out:
+    with open(crates + "/seamlist/stdout", "w") as out:
         out.write(listing(made[0][1])[0])
-    with open("crates/deck/stdout", "wb") as out:
+    with open(crates + "/deck/stdout", "wb") as out:
         out.write(index(*deck()))
 
 
-main()
+if __name__ == "__main__":
+    main(sys.argv[1] if len(sys.argv) > 1 else ".")

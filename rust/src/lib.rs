@@ -29,25 +29,29 @@ pub enum Refusal {
 }
 
 impl Refusal {
-    /// The refusal of a number and a place, none for 0.
+    /// The refusal of a number and a place, none for 0. A refusal that names no place must have place 0.
     pub fn of(number: u32, place: u64) -> Option<Refusal> {
         let at = place as usize;
+        let nowhere = |refusal: Refusal| {
+            assert_eq!(place, 0, "{refusal:?} names no place");
+            refusal
+        };
         Some(match number {
             0 => return None,
-            1 => Refusal::Size,
-            2 => Refusal::Length,
-            3 => Refusal::Starts,
+            1 => nowhere(Refusal::Size),
+            2 => nowhere(Refusal::Length),
+            3 => nowhere(Refusal::Starts),
             4 => Refusal::Links(at),
             5 => Refusal::Order(at),
             6 => Refusal::Room(at),
-            7 => Refusal::Far,
+            7 => nowhere(Refusal::Far),
             8 => Refusal::Frame(at),
             9 => Refusal::Row(at),
             10 => Refusal::Short(at),
-            11 => Refusal::Version,
+            11 => nowhere(Refusal::Version),
             12 => Refusal::Field(at),
             13 => Refusal::Long(at),
-            14 => Refusal::Out,
+            14 => nowhere(Refusal::Out),
             _ => panic!("no refusal has number {number}"),
         })
     }

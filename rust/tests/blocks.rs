@@ -219,8 +219,8 @@ fn builds_questions_files() {
             4 => k_asked = [n + 1, usize::MAX][dice.below(2)],
             _ => {}
         }
-        let lens: Vec<usize> = [n * w, n, n, n].iter().map(|&l| off_by_one(&mut dice, l)).collect();
-        let mut rooms: Vec<Guarded> = lens.iter().map(|&l| Guarded::dirty(&mut dice, l)).collect();
+        let lens = [n * w, n, n, n].map(|l| off_by_one(&mut dice, l));
+        let mut rooms = lens.map(|l| Guarded::dirty(&mut dice, l));
         let before: Vec<Vec<u32>> = rooms.iter().map(|r| r.now().to_vec()).collect();
 
         let tests = model::sizes(n_asked, Some(w_asked), Some(k_asked), Some(block.places.len()))
@@ -235,7 +235,7 @@ fn builds_questions_files() {
             .and_then(|_| model::order(n_asked, &order));
         let expected = tests.and_then(|_| model::build(n, w, k, &block.starts, &block.places, &order).map(Some));
 
-        let [labels, counts, a, b] = &mut rooms[..] else { unreachable!() };
+        let [labels, counts, a, b] = &mut rooms;
         let got = seam::build(
             n_asked, w_asked, k_asked, block.links(), &order, labels.room(), counts.room(), (a.room(), b.room()),
         );
@@ -356,9 +356,9 @@ fn files(dice: &mut Dice, n: usize, w: usize, k: usize, order: &[u32], labels: &
     let rows = Rows { n, w, labels, counts };
     let got = rows.write(k_asked, order, &mut out, start);
     assert_eq!(got, expected.as_ref().map(Vec::len).map_err(|r| *r));
-    let Ok(file) = expected else {
-        assert_eq!(out, before);
-        return;
+    let file = match expected {
+        Ok(file) => file,
+        Err(_) => return assert_eq!(out, before),
     };
     assert_eq!(file.len(), seam::file_bytes(n, counts.iter().map(|&c| c as usize).sum()));
     assert_eq!(out[..start], before[..start]);
@@ -389,11 +389,11 @@ fn back(dice: &mut Dice, bytes: &[u8], w: usize) {
     let w = [w, w, w, w, w + 1, w.saturating_sub(1).max(1), 0, 257][dice.below(8)];
     let n = model::header(bytes).map_or(1, |h| h.0).min(4096);
     let w_room = w.min(256);
-    let lens: Vec<usize> = [n, n * w_room, n].iter().map(|&l| off_by_one(dice, l)).collect();
-    let mut rooms: Vec<Guarded> = lens.iter().map(|&l| Guarded::dirty(dice, l)).collect();
+    let lens = [n, n * w_room, n].map(|l| off_by_one(dice, l));
+    let mut rooms = lens.map(|l| Guarded::dirty(dice, l));
     let before: Vec<Vec<u32>> = rooms.iter().map(|r| r.now().to_vec()).collect();
     let expected = model::read(bytes, w, lens[0], lens[1], lens[2]);
-    let [order, labels, counts] = &mut rooms[..] else { unreachable!() };
+    let [order, labels, counts] = &mut rooms;
     let got = seam::read(bytes, w, order.room(), labels.room(), counts.room());
     assert_eq!(got, expected.as_ref().map(|i| (i.n, i.k)).map_err(|r| *r));
     match expected {
@@ -429,6 +429,16 @@ fn limits() {
     let rows = Rows { n: 4096, w: 1, labels: &labels, counts: &counts };
     assert_eq!(rows.pair(4095, 4095), Ok(Some(8190)));
     assert_eq!(rows.spread(), Ok(8190));
+}
+
+// The wrapper lets no place pass with a refusal that names none.
+#[test]
+fn places() {
+    for number in 1..=14 {
+        let names_none = [1, 2, 3, 7, 11, 14].contains(&number);
+        assert_eq!(std::panic::catch_unwind(|| Refusal::of(number, 5)).is_err(), names_none, "number {number}");
+        assert!(Refusal::of(number, 0).is_some());
+    }
 }
 
 // The paper's worked cases, through the C interface.

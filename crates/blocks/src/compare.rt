@@ -1,4 +1,6 @@
-// One build of a block, and every pair's answer held against the least sums of the searches.
+// One build of a block, held against what is due, and every pair's answer against the least sums of the searches.
+use crate::due::Due;
+use crate::due::is_due;
 use crate::room::get;
 use crate::say;
 use crate::search::NONE;
@@ -6,9 +8,7 @@ use crate::search::sums_of;
 use crate::tally::Tally;
 use build::Built;
 use build::build;
-use refusal::ROOM;
-use refusal::Refusal;
-use rows::entry::Entry;
+use entry::Entry;
 use rows::pair::Answer;
 use rows::pair::pair;
 
@@ -62,9 +62,8 @@ fn compare(
     labels: &[Entry],
     counts: &[u32],
     sums: &[u32],
-    before: Tally,
+    mut tally: Tally,
 ) -> Tally {
-    let mut tally = before.built();
     let mut s = 0;
     while s < n {
         tally = compare_row(n, w, k, labels, counts, s, sums_of(sums, s), tally);
@@ -73,15 +72,26 @@ fn compare(
     tally
 }
 
-// A refused build: for want of room in a row narrower than n it is counted, and anything else is a fault.
-fn refused(n: usize, w: usize, k: usize, refusal: Refusal, before: Tally) -> Tally {
-    if refusal.number == ROOM {
-        if w < n {
-            return before.refused();
-        }
+// What a build gave, then every pair unless it was refused.
+fn judge(
+    n: usize,
+    w: usize,
+    k: usize,
+    labels: &[Entry],
+    counts: &[u32],
+    sums: &[u32],
+    built: Built,
+    due: Due,
+    before: Tally,
+) -> Tally {
+    if !is_due(built, due) {
+        say::build_difference(n, k, built, due);
+        return before.unequal();
     }
-    say::refusal(n, k, refusal.number, refusal.place);
-    before.unequal()
+    match built {
+        Built::Entries(entries) => compare(n, w, k, labels, counts, sums, before.built(entries)),
+        Built::Refused(_) => before.refused(),
+    }
 }
 
 // Whether a stop is tried: 0, 1, 2, n / 2, n - 1 and n.
@@ -111,6 +121,7 @@ pub fn try_stop(
     met: &mut [u32],
     queue: &mut [u32],
     sums: &[u32],
+    due: Due,
     before: Tally,
 ) -> Tally {
     if !before.is_equal {
@@ -120,8 +131,5 @@ pub fn try_stop(
         return before;
     }
     let built = build(n, w, k, starts, places, order, labels, counts, met, queue);
-    match built {
-        Built::Entries(_) => compare(n, w, k, labels, counts, sums, before),
-        Built::Refused(refusal) => refused(n, w, k, refusal, before),
-    }
+    judge(n, w, k, labels, counts, sums, built, due, before)
 }

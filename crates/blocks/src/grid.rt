@@ -10,8 +10,8 @@ use crate::search::search_from;
 use crate::tally::Tally;
 use build::Built;
 use build::build;
+use entry::Entry;
 use refusal::Refusal;
-use rows::entry::Entry;
 
 // Frames of the grid, and most entries of a row.
 const FRAMES: usize = 4096;

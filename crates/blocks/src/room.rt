@@ -19,6 +19,13 @@ pub fn push(room: &mut [u32], at: usize, value: usize) -> usize {
     at
 }
 
+// One more at a place; how many there are then.
+pub fn raise(room: &mut [u32], at: usize) -> usize {
+    let count = get(room, at) % 65536 + 1;
+    put(room, at, count);
+    count as usize
+}
+
 // The places of a room from one on, all of them where that lies past the end.
 pub fn behind(room: &[u32], from: usize) -> &[u32] {
     if room.len() < from {

@@ -1,6 +1,9 @@
 // What the program prints.
+use crate::due::Due;
 use crate::search::NONE;
+use build::Built;
 use libc::STDOUT_FILENO;
+use refusal::ROOM;
 use rows::pair::Answer;
 
 pub fn text(words: &[u8]) {
@@ -39,6 +42,37 @@ pub fn difference(n: usize, k: usize, s: usize, t: usize, said: Answer, joins: u
     field(b" t ", t);
     answer(said);
     searched(joins);
+    text(b"\n");
+}
+
+// A refusal's number, and its place behind it.
+fn number_at(word: &[u8], number: u32, place: usize) {
+    field(word, number as usize);
+    field(b" at ", place);
+}
+
+// What a build gave.
+fn given(built: Built) {
+    match built {
+        Built::Entries(entries) => field(b" build entries ", entries),
+        Built::Refused(refusal) => number_at(b" build refused ", refusal.number, refusal.place),
+    }
+}
+
+// What the row rule over the searches asks of it.
+fn asked(due: Due) {
+    match due {
+        Due::Entries(entries) => field(b" rule entries ", entries),
+        Due::Full(rank) => number_at(b" rule refused ", ROOM, rank),
+    }
+}
+
+// A build that did not give what was due.
+pub fn build_difference(n: usize, k: usize, built: Built, due: Due) {
+    field(b"differs: n ", n);
+    field(b" k ", k);
+    given(built);
+    asked(due);
     text(b"\n");
 }
 

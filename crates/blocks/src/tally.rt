@@ -1,11 +1,12 @@
 // What was compared so far, and whether all of it was equal.
 
 // Above every count of a run.
-const MANY: usize = 1000000000;
+pub const MANY: usize = 1000000000;
 
 pub struct Tally {
     pub builds: usize,
     pub refusals: usize,
+    pub entries: usize,
     pub pairs: usize,
     pub is_equal: bool,
 }
@@ -15,14 +16,16 @@ impl Tally {
         Self {
             builds: 0,
             refusals: 0,
+            entries: 0,
             pairs: 0,
             is_equal: true,
         }
     }
 
-    // One more build that was not refused.
-    pub fn built(mut self) -> Self {
+    // One more build that was not refused, and its entries.
+    pub fn built(mut self, entries: usize) -> Self {
         self.builds = self.builds % MANY + 1;
+        self.entries = self.entries % MANY + entries % MANY;
         self
     }
 

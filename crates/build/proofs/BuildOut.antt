@@ -16,7 +16,8 @@ use Rattle.theory.specs.Rows.{Row}
 use Rattle.theory.specs.Plain.{rowBy}
 use Rattle.links.specs.Links.{startsTest, listsTest}
 use Rattle.links.specs.Order.{orderTest}
-use Rattle.build.specs.Build.{Laid, fullAt, stopAt, walksTest, buildTests, MakeIn, RunIn, RunOut, Outcome, outcome, afterWalks, afterTests, buildOf, builtNumber, builtPlace, builtEntries}
+use Rattle.rows.specs.Laid.{Laid}
+use Rattle.build.specs.Build.{fullAt, stopAt, walksTest, buildTests, MakeIn, RunIn, RunOut, Outcome, outcome, afterWalks, afterTests, buildOf, builtNumber, builtPlace, builtEntries}
 use Rattle.build.specs.declared.Built.{Built}
 use Rattle.build.specs.declared.Built.the-variants.{Entries, Refused as NotBuilt}
 use Rattle.build.proofs.RunStops.{at-end}

@@ -7,7 +7,7 @@ use mathlib.Core.List.{List, [], _∷_, _++_}
 use native.Mathlib.Omega.{arith}
 use borrow.Author.Tests.{lt-ltb, le-ltb, ltb-true, le-leb, leb-true}
 use lib.ListN.{length, getD, length-append}
-use lib.Seq.{getD-append-seam}
+use lib.Seq.{getD-append-seam, ext-getD}
 use lib.Dec.{leb, ltb}
 use Rattle.basics.proofs.Laws.{bcase, same-truth, some-ext}
 use Rattle.theory.specs.Distance.{far}
@@ -17,14 +17,16 @@ use Rattle.theory.specs.Walk.{walkRow}
 use Rattle.theory.specs.Plain.{joinsTo, rowBy}
 use Rattle.theory.proofs.Rule.{rankAt, joinsAt}
 use Rattle.theory.proofs.Plain.{plain-rising, plain-places, walk-out}
-use Rattle.rows.specs.Entry.{rankOf, decode}
-use Rattle.rows.specs.Rooms.{rowAt}
-use Rattle.rows.proofs.Laws.{length-encode, decode-encode, decoded}
-use Rattle.build.specs.Build.{labelsOf, countsOf, Laid, fullAt, farFrame, farAt, Tested}
-use Rattle.build.specs.Explore.{SoundRows}
-use Rattle.build.specs.Walk.{rowsIn, soFar, levelOf, kept, walkFits}
-use Rattle.build.specs.Settle.{walkedRows, walkNear, decided, walkOf}
-use Rattle.build.proofs.RoomLaws.{row-is, laid-ext, count-at}
+use Rattle.entry.specs.Entry.{rankOf, encode, decode}
+use Rattle.rows.specs.Rooms.{rowAt, part}
+use Rattle.entry.proofs.Laws.{length-encode, decode-encode, decoded}
+use Rattle.rows.proofs.Laws.{length-part, part-table}
+use Rattle.build.specs.Build.{fullAt, farFrame, farAt, Tested}
+use Rattle.rows.specs.Laid.{labelsOf, countsOf, Laid, rowsIn}
+use Rattle.walk.specs.Explore.{SoundRows}
+use Rattle.walk.specs.Walk.{soFar, levelOf, kept, walkFits}
+use Rattle.walk.specs.Settle.{walkedRows, walkNear, decided, walkOf}
+use Rattle.rows.proofs.LaidLaws.{length-labels, laid-ext, count-at}
 
 -- ---- one kept entry
 
@@ -63,6 +65,26 @@ kept-same r m a m′ a′ x b =
     rw (e, f)
     (λ (same : x ≡ x ++ ((r, m′) ∷ [])). absurd (omega (arith, ap length same, length-append x ((r, m′) ∷ [])))))
     (λ f. rw (e, f) (λ same. refl)))
+
+-- ---- a row read back
+
+-- the used part of row v holds the entries of v's row
+module _ (n w : ℕ) (R : ℕ → Row) (v c : ℕ) (h : v < n) (fits : c ≤ w) (is : length (R v) ≡ c) where
+  long : length (part w (labelsOf n w R) v c) ≡ c
+  long = length-part w (labelsOf n w R) v c h fits (length-labels n w R)
+
+  entry-is : (i : ℕ) → i < c → getD (part w (labelsOf n w R) v c) i 0 ≡ getD (encode (R v)) i 0
+  unfolding labelsOf
+  entry-is i low = part-table n w (λ u x. getD (encode (R u)) x 0) v c i h fits low
+
+  part-is : part w (labelsOf n w R) v c ≡ encode (R v)
+  part-is =
+      ext-getD 0 (part w (labelsOf n w R) v c) (encode (R v)) (long ∙ sym is ∙ sym (length-encode (R v)))
+      (λ i l. entry-is i (omega (arith, long)))
+
+row-is : (n w : ℕ) (R : ℕ → Row) (v : ℕ) → v < n → length (R v) ≤ w → rowAt w (labelsOf n w R) (countsOf n R) v ≡ encode (R v)
+unfolding rowAt
+row-is n w R v h fits = rw (count-at n R v h) (part-is n w R v (length (R v)) h fits refl)
 
 -- ---- rooms that hold the rule's rows at rank r
 

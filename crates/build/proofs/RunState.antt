@@ -16,11 +16,12 @@ use Rattle.refusal.proofs.Laws.{fine-not-refused}
 use Rattle.theory.specs.Links.{hubOf}
 use Rattle.theory.specs.Rows.{Row}
 use Rattle.theory.specs.Plain.{rowBy}
-use Rattle.build.specs.Build.{labelsOf, countsOf, Laid, fullAt, farAt, stops, stopAt, walksTest, RunIn, RunOut}
-use Rattle.build.specs.Settle.{WalkIn, WalkOut, decided, walkedRows, ifMade, verdictOf}
-use Rattle.build.specs.declared.settle.Walked.{Walked}
-use Rattle.build.specs.declared.settle.Walked.the-variants.{Made, Full, Far}
-use Rattle.build.proofs.RoomLaws.{laid-long, laid-ext, length-labels}
+use Rattle.build.specs.Build.{fullAt, farAt, stops, stopAt, walksTest, verdictOf, RunIn, RunOut}
+use Rattle.rows.specs.Laid.{labelsOf, countsOf, Laid}
+use Rattle.walk.specs.Settle.{WalkIn, WalkOut, decided, walkedRows, ifMade}
+use Rattle.walk.specs.declared.Walked.{Walked}
+use Rattle.walk.specs.declared.Walked.the-variants.{Made, Full, Far}
+use Rattle.rows.proofs.LaidLaws.{laid-long, laid-ext, length-labels}
 use Rattle.build.proofs.RunLaws.{Ruled, rows-back, laid-back, sound-back, rows-next, walk-is}
 use Rattle.build.proofs.RunStops.{laid-empty, fit-upto, stop-here, run-full, run-far, run-end, at-end}
 

@@ -15,8 +15,9 @@ use Rattle.refusal.proofs.Laws.{test-fine, test-refused, test-held}
 use Rattle.theory.specs.Rows.{Row}
 use Rattle.theory.specs.Plain.{rowBy}
 use Rattle.theory.proofs.Plain.{row-none}
-use Rattle.rows.specs.Entry.{encode}
-use Rattle.build.specs.Build.{labelsOf, countsOf, Laid, fullAt, farAt, stops, stopAt, walksTest}
+use Rattle.entry.specs.Entry.{encode}
+use Rattle.rows.specs.Laid.{labelsOf, countsOf, Laid}
+use Rattle.build.specs.Build.{fullAt, farAt, stops, stopAt, walksTest}
 
 no-entry : (i : ℕ) → getD (encode []) i 0 ≡ 0
 unfolding encode

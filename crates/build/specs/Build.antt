@@ -1,15 +1,15 @@
 -- What a build gives back and leaves in the rooms it is lent: the paper's tests, and then the rows of the ROW RULE, not of
 -- any walk. n frames, width w, stop k, start positions S, neighbour places L, order O.
-use Prim.Native.Nat.{ℕ, suc, _+_, _*_, _/_, _%_, _≤_}
+use Prim.Native.Nat.{ℕ, suc, _+_, _*_, _≤_}
 use mathlib.Core.Path.{_≡_}
 use mathlib.Core.Bool.{Bool, cond, _&&_, _||_}
 use mathlib.Core.List.{List}
-use lib.ListN.{length, getD, replicate}
+use lib.ListN.{length, replicate}
 use lib.Dec.{leb, ltb, eqb}
-use Rattle.basics.specs.Places.{first, some, table, sum}
+use Rattle.basics.specs.Places.{first, some, sum}
 use Rattle.refusal.specs.Numbers.{SIZE, LENGTH, ROOM, FAR}
 use Rattle.refusal.specs.Sizes.{sizesFit, placesFit, Sizes}
-use Rattle.refusal.specs.Tests.{test, _then_}
+use Rattle.refusal.specs.Tests.{refusal, test, _then_}
 use Rattle.refusal.specs.declared.Verdict.{Verdict}
 use Rattle.refusal.specs.declared.Verdict.the-variants.{Fine, Refused}
 use Rattle.theory.specs.Distance.{far}
@@ -18,22 +18,11 @@ use Rattle.theory.specs.Rows.{Row, hubs}
 use Rattle.theory.specs.Plain.{ones, joinsTo, rowBy}
 use Rattle.links.specs.Links.{startsTest, listsTest}
 use Rattle.links.specs.Order.{orderTest}
-use Rattle.rows.specs.Entry.{encode}
+use Rattle.rows.specs.Laid.{labelsOf, countsOf, Laid}
+use Rattle.walk.specs.declared.Walked.{Walked}
+use Rattle.walk.specs.declared.Walked.the-variants.{Made, Full, Far}
 use Rattle.build.specs.declared.Built.{Built}
 use Rattle.build.specs.declared.Built.the-variants.{Entries, Refused as NotBuilt}
-
--- label room: row v starts at place v * W; unused places of a row are 0
-unfoldable pub labelsOf : ℕ → ℕ → (ℕ → Row) → List ℕ
-labelsOf n w R = table (n * w) (λ p. getD (encode (R (p / w))) (p % w) 0)
-
--- count room: for each frame the number of entries in its row
-unfoldable pub countsOf : ℕ → (ℕ → Row) → List ℕ
-countsOf n R = table n (λ v. length (R v))
-
--- the two rooms hold these rows and nothing else
-pub record Laid (n w : ℕ) (R : ℕ → Row) (labels counts : List ℕ) : Type 0 where
-  pub rows : labels ≡ labelsOf n w R
-  pub numbers : counts ≡ countsOf n R
 
 -- 1: n from 1 to 4,096, W from 1 to 256, k from 0 to n, neighbour places at most 65,536
 unfoldable pub buildSizes : ℕ → ℕ → ℕ → ℕ → Bool
@@ -106,6 +95,12 @@ pub record RunIn (n w k : ℕ) (S L O labels counts met queue noted : List ℕ) 
   pub met-zero : met ≡ replicate n 0
   pub queue-zero : queue ≡ replicate n 0
   pub noted-far : noted ≡ replicate 4096 65536
+
+-- what a walk of this rank makes of the build: ROOM at the rank, FAR at 0
+unfoldable pub verdictOf : Walked → ℕ → Verdict
+verdictOf Made rank = Fine
+verdictOf Full rank = Refused (refusal ROOM rank)
+verdictOf Far rank = Refused (refusal FAR 0)
 
 -- what the walks give back, and the rooms after them: the rows of the rule at the rank where they stopped
 pub record RunOut (n w k : ℕ) (S L O : List ℕ) (verdict : Verdict)

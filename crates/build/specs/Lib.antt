@@ -1,4 +1,1 @@
-pub mod Walk
-pub mod Explore
 pub mod Build
-pub mod Settle

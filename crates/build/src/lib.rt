@@ -1,17 +1,14 @@
-// The walk of one hub, and the build: walks in rank order from empty rows.
+// The build: walks in rank order from empty rows.
+use entry::Entry;
 use refusal::Refusal;
 use refusal::Verdict;
-use rows::entry::Entry;
 ghost use mathlib.Core.Path.{_≡_};
 ghost use Rattle.build.specs.Build.{outcome, buildOf};
 
-mod explore;
 mod make;
 mod rooms;
 mod run;
-mod settle;
 mod tests;
-mod walk;
 
 // What a build gives back: the number of entries, or its refusal.
 pub enum Built {

@@ -1,5 +1,5 @@
 // Whole rooms, cleared once per build.
-use rows::entry::Entry;
+use entry::Entry;
 ghost use mathlib.Core.Path.{_≡_};
 ghost use lib.ListN.{length, replicate};
 

@@ -1,13 +1,12 @@
 // The walks of the first k hubs in rank order, over cleared rooms, up to the first that is refused.
-use crate::explore::LACKING;
-use crate::settle::Walked;
-use crate::walk::walk;
+use entry::Entry;
 use refusal::Verdict;
-use rows::entry::Entry;
+use walk::LACKING;
+use walk::Walked;
+use walk::walk;
 ghost use mathlib.Core.Path.{_≡_};
 ghost use lib.ListN.{length, replicate};
-ghost use Rattle.build.specs.Build.{RunIn, RunOut};
-ghost use Rattle.build.specs.Settle.{verdictOf};
+ghost use Rattle.build.specs.Build.{RunIn, RunOut, verdictOf};
 
 // What a walk of this rank makes of the build: ROOM at the rank, FAR at 0.
 pub fn verdict_of(walked: Walked, rank: usize) -> Verdict

@@ -4,7 +4,7 @@ use Prim.Native.Nat.{ℕ}
 use mathlib.Core.Bool.{cond}
 use mathlib.Core.List.{List, [], _∷_}
 use lib.ListN.{length}
-use Rattle.refusal.specs.Tests.{numberOf, placeOf}
+use Rattle.refusal.specs.Told.{Told, verdictTold}
 use Rattle.refusal.specs.declared.Verdict.{Verdict}
 use Rattle.links.specs.Order.{Ordered}
 use Rattle.rows.specs.Rooms.{checkRow}
@@ -32,7 +32,9 @@ withRooms o rooms = outs (o .number) (o .place) (o .values) rooms
 
 -- a test: 0 or a refusal
 unfoldable pub testOuts : Verdict → Outs
-testOuts verdict = outs (numberOf verdict) (placeOf verdict) [] []
+testOuts verdict =
+    let t : Told = verdictTold verdict in
+    outs (t .number) (t .place) (t .values) []
 
 -- order by degree: a verdict, and the order room
 unfoldable pub orderOuts : Ordered → Outs
@@ -50,7 +52,8 @@ pairOuts t = outs (t .number) (t .place) (cond (t .found) 1 0 ∷ (t .joins ∷ 
 -- the row lookup: where the used part of that frame's row starts inside the label room, and its length
 unfoldable pub rowOuts : ℕ → ℕ → List ℕ → List ℕ → ℕ → Outs
 rowOuts n w labels counts v =
-    outs (numberOf (checkRow n w labels counts v)) (placeOf (checkRow n w labels counts v))
+    let t : Told = verdictTold (checkRow n w labels counts v) in
+    outs (t .number) (t .place)
     (rowStart n w labels counts v ∷ (length (rowOf n w labels counts v) ∷ [])) []
 
 -- the spread question

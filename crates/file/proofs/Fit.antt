@@ -17,9 +17,9 @@ use Rattle.refusal.proofs.Laws.{test-fine, test-held, then-fine, after-fine}
 use Rattle.theory.specs.Links.{Order}
 use Rattle.links.proofs.Order.{order-sound}
 use Rattle.refusal.proofs.SizeLaws.{sizes-fit, sizes-held}
-use Rattle.rows.specs.Rooms.{RowLies, Rooms, rowAt, soundRow}
-use Rattle.rows.proofs.Laws.{Sound, row-sound}
-use Rattle.rows.proofs.RoomLaws.{row-lies, all-sound, length-row}
+use Rattle.rows.specs.Rooms.{RowLies, Rooms, rowAt, soundRow, checkRows}
+use Rattle.rows.proofs.Laws.{Sound, row-sound, sound-row, sound-higher}
+use Rattle.rows.proofs.RoomLaws.{row-lies, rows-alone, all-sound, sound-all, length-row}
 use Rattle.file.specs.Bits.{bitLen, byteLen, Legal}
 use Rattle.file.specs.Layout.{headerFields, orderFields, rowFields, rowsFields, fileFields, fileOf, fileSize, lengthsFit}
 use Rattle.file.specs.Writer.{indexSizes, writeTests, Fit}
@@ -82,6 +82,12 @@ module _ (n k w : ℕ) (O labels counts : List ℕ) where
 
     pub fit-length : (v : ℕ) → v < n → length (rowAt w labels counts v) ≡ getD counts v 0
     fit-length v h = length-row (f .rooms) v h (fit-count v h)
+
+    -- rows that are sound for the stop are so for n, as the spread question asks
+    pub fit-rows : checkRows n n w labels counts ≡ Fine
+    fit-rows =
+        rows-alone n n w labels counts (f .rooms)
+        ∙ sound-all n n w labels counts (λ v h. sound-row n n w labels counts v (fit-count v h) (sound-higher (f .stop) (fit-row v h)))
 
     -- every row lies in the label room
     pub fit-lies : (v : ℕ) → v < n → RowLies w labels counts v

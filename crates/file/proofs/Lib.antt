@@ -11,6 +11,7 @@ pub mod Packed
 pub mod Pen
 pub mod ReadBack
 pub mod ReadFit
+pub mod ReadSpread
 pub mod ReadWrite
 pub mod Reader
 pub mod Steps

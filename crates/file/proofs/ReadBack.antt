@@ -5,7 +5,7 @@ use mathlib.Core.List.{List, _++_}
 use native.Mathlib.Omega.{arith}
 use native.Mathlib.Nat.{zero-add}
 use lib.ListN.{length, getD}
-use Rattle.rows.specs.Entry.{rankOf, joinsOf}
+use Rattle.entry.specs.Entry.{rankOf, joinsOf}
 use Rattle.rows.specs.Rooms.{rowAt}
 use Rattle.file.specs.Bits.{Field, fieldAt, bitLen, byteLen, padLen, Reads}
 use Rattle.file.specs.Layout.{headerFields, frameFields, orderFields, pairFields, entryFields, rowFields, rowsFields, fileFields, fileOf}

@@ -15,9 +15,10 @@ use Rattle.refusal.specs.Numbers.{ORDER}
 use Rattle.refusal.specs.declared.Verdict.{Verdict}
 use Rattle.refusal.proofs.Laws.{tests-each, none-lowest}
 use Rattle.links.specs.Order.{faultyRank, orderTest}
-use Rattle.rows.specs.Entry.{rankOf, joinsOf}
+use Rattle.entry.specs.Entry.{rankOf, joinsOf}
 use Rattle.rows.specs.Rooms.{Rooms, rowAt, rowsTest}
-use Rattle.rows.proofs.Laws.{Sound, rank-entry, joins-entry, sound-row}
+use Rattle.entry.proofs.Laws.{rank-entry, joins-entry}
+use Rattle.rows.proofs.Laws.{Sound, sound-row}
 use Rattle.rows.proofs.RoomLaws.{length-row, sound-all}
 use Rattle.file.specs.Bits.{fieldAt}
 use Rattle.file.specs.Reader.{framesOf, stopOf, frameAt, orderFieldTest, entryTest, lowAt, rowBit, countAt, entryAt, labelAt, orderRead, labelsRead, countsRead}

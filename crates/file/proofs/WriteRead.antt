@@ -13,9 +13,10 @@ use Rattle.basics.specs.Places.{stands}
 use Rattle.basics.proofs.Laws.{stands-not, is-table, length-table}
 use Rattle.refusal.specs.declared.Verdict.{Verdict}
 use Rattle.refusal.proofs.Laws.{tests-fine}
-use Rattle.rows.specs.Entry.{rankOf, entryOf}
+use Rattle.entry.specs.Entry.{rankOf, entryOf}
 use Rattle.rows.specs.Rooms.{rowAt}
-use Rattle.rows.proofs.Laws.{Sound, entry-of-parts, length-part}
+use Rattle.entry.proofs.Laws.{entry-of-parts}
+use Rattle.rows.proofs.Laws.{Sound, length-part}
 use Rattle.refusal.proofs.SizeLaws.{width-fits}
 use Rattle.file.specs.Bits.{fieldAt, bitLen, byteLen}
 use Rattle.file.specs.Layout.{fileFields, fileOf, stored, Same}

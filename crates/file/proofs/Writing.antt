@@ -9,7 +9,7 @@ use lib.ListN.{length, take, drop}
 use lib.Seq.{drop-drop, take-at, drop-at, length-take-le}
 use Rattle.basics.proofs.Laws.{both, both-true}
 use Rattle.refusal.specs.Numbers.{SIZE, LENGTH, ORDER, ROW, OUT}
-use Rattle.refusal.specs.Tests.{_then_, numberOf, placeOf}
+use Rattle.refusal.specs.Tests.{_then_}
 use Rattle.refusal.specs.declared.Refusal.{Refusal}
 use Rattle.refusal.specs.declared.Verdict.{Verdict}
 use Rattle.refusal.specs.declared.Verdict.the-variants.{Fine, Refused}
@@ -130,7 +130,7 @@ module _ (n k w : ℕ) (O labels counts out : List ℕ) (start : ℕ) where
 
   pub write-same : (a b : Written) (x y : List ℕ) → wrote a x ≡ writeOf n k w O labels counts out start →
       wrote b y ≡ writeOf n k w O labels counts out start → (a ≡ b) × (x ≡ y)
-  unfolding wrote numberOf placeOf
+  unfolding wrote
   write-same (Written.Bytes p) (Written.Bytes q) x y e f =
       (ap (λ (t : Wrote). Written.Bytes (t .bytes)) (e ∙ sym f), ap (λ (t : Wrote). t .room) (e ∙ sym f))
   write-same (Written.Bytes p) (Written.Refused r) x y e f =

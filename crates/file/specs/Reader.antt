@@ -11,7 +11,7 @@ use Rattle.refusal.specs.Sizes.{widthFits}
 use Rattle.refusal.specs.Tests.{test, _then_, testsFrom}
 use Rattle.refusal.specs.declared.Verdict.{Verdict}
 use Rattle.links.specs.Order.{faultyRank}
-use Rattle.rows.specs.Entry.{entryOf}
+use Rattle.entry.specs.Entry.{entryOf}
 use Rattle.file.specs.declared.Opened.{Opened}
 use Rattle.file.specs.Bits.{fieldAt, byteLen, padLen}
 use Rattle.file.specs.Layout.{versionBits, framesBits, stopBits, spareBits, frameBits, countBits, rankBits, joinsBits, entryBits, framesBit, stopBit, spareBit, orderBit, joinsBit, entryBit, lengthsFit}

@@ -6,10 +6,10 @@ mod writer;
 
 ghost use mathlib.Core.Path.{_≡_};
 ghost use Rattle.file.specs.Writer.{wrote, writeOf};
+use entry::Entry;
 use refusal;
 use refusal::Refusal;
 use refusal::Verdict;
-use rows::entry::Entry;
 ghost use Rattle.file.specs.Reader.{headerOf, outcome, readOf, told};
 
 mod check;

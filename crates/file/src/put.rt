@@ -1,8 +1,8 @@
 // The field writer: fields go into a byte string, most significant bit first. A pen is handed on by value; a byte is
 // stored once, when its eight bits are there, and what is not yet a byte stays with the pen.
 use crate::widths;
-use rows::entry;
-use rows::entry::Entry;
+use entry;
+use entry::Entry;
 ghost use mathlib.Core.List.{[], _∷_};
 ghost use Prim.Native.Nat.{ℕ, _+_, _-_, _*_, _≤_, _<_};
 ghost use Rattle.file.specs.Bits.{field};

@@ -1,8 +1,8 @@
 // The rooms filled from a file whose tests are fine: fields are read again and stored, and unused places get 0.
 use crate::get;
 use crate::widths;
-use rows::entry::Entry;
-use rows::entry::entry_of;
+use entry::Entry;
+use entry::entry_of;
 ghost use Prim.Native.Nat.{_+_, _-_, _*_, _^_, _≤_, _<_};
 ghost use mathlib.Core.Path.{_≡_};
 ghost use lib.ListN.{length, set};

@@ -10,11 +10,11 @@ use crate::put;
 use crate::put::Pen;
 use crate::rooms;
 use crate::widths;
+use entry::Entry;
 use links;
 use refusal;
 use refusal::Verdict;
 use rows::check;
-use rows::entry::Entry;
 use rows::rooms::total;
 
 // Whether n, W and k are in range.

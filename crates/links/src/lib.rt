@@ -1,6 +1,7 @@
 // Links and hub order: the tests that stand before everything (1 to 5), and the order by degree.
 use refusal::Verdict;
 ghost use mathlib.Core.Path.{_≡_};
+ghost use Rattle.refusal.specs.Told.{verdictTold};
 ghost use Rattle.links.specs.Links.{checkLinks};
 ghost use Rattle.links.specs.Order.{checkOrder, degreeTests, ordered, degreeOf};
 
@@ -25,14 +26,16 @@ fn block_tests(n: usize, starts: &[u32], places: &[u32], room: usize) -> Verdict
 
 // Check links: tests 1 to 4. There is no order room: one of n places is never refused.
 pub fn check_links(n: usize, starts: &[u32], places: &[u32]) -> Verdict
-    ensures { λ r. ⌜ r ≡ checkLinks n (now (starts .entry)) (now (places .entry)) ⌝ }
+    ensures answer { λ r. ⌜ r ≡ checkLinks n (now (starts .entry)) (now (places .entry)) ⌝ }
+    ensures numbers { λ r. ⌜ verdictTold r ≡ verdictTold (checkLinks n (now (starts .entry)) (now (places .entry))) ⌝ }
 {
     block_tests(n, starts, places, n)
 }
 
 // Check order: tests 1, 2 and 5 on an order of n frames.
 pub fn check_order(n: usize, order: &[u32]) -> Verdict
-    ensures { λ r. ⌜ r ≡ checkOrder n (now (order .entry)) ⌝ }
+    ensures answer { λ r. ⌜ r ≡ checkOrder n (now (order .entry)) ⌝ }
+    ensures numbers { λ r. ⌜ verdictTold r ≡ verdictTold (checkOrder n (now (order .entry))) ⌝ }
 {
     if refusal::sizes::frames_fit(n) {
         if order.len() == n {
@@ -45,7 +48,13 @@ pub fn check_order(n: usize, order: &[u32]) -> Verdict
 
 // Order by degree: tests 1 to 4, then the order room filled; as lent where a test refuses.
 pub fn order_by_degree(n: usize, starts: &[u32], places: &[u32], order: &mut [u32]) -> Verdict
-    ensures { λ r. ⌜ ordered r (now (order .exit)) ≡ degreeOf n (now (starts .entry)) (now (places .entry)) (now (order .entry)) ⌝ }
+    ensures answer { λ r. ⌜
+        ordered r (now (order .exit)) ≡ degreeOf n (now (starts .entry)) (now (places .entry)) (now (order .entry))
+        ⌝ }
+    ensures numbers { λ r. ⌜
+        verdictTold r
+        ≡ verdictTold (degreeOf n (now (starts .entry)) (now (places .entry)) (now (order .entry)) .verdict)
+        ⌝ }
 {
     let links = block_tests(n, starts, places, order.len());
     let Verdict::Fine = links else {

@@ -13,27 +13,23 @@ use Rattle.refusal.specs.declared.Verdict.{Verdict}
 use Rattle.refusal.proofs.Laws.{test-fine, test-refused, after-fine, after-refused}
 use Rattle.rows.specs.declared.spread.SpreadAnswer.{SpreadAnswer}
 use Rattle.rows.specs.Rooms.{soundRow, checkRows}
-use Rattle.rows.specs.Spread.{spreadBy, spreadOf}
+use Rattle.rows.specs.Spread.{spreadFigure, spreadOf, spreadTold}
 use Rattle.rows.proofs.RoomLaws.{rows-sound}
+use Rattle.rows.proofs.SpreadLaws.{spread-sound}
 use Rattle.file.specs.declared.Opened.{Opened}
 use Rattle.file.specs.Reader.{framesOf, stopOf, headerTest, headerOf, readTest, readOf, filledIn, outcome, Outcome, told}
 use Rattle.file.proofs.Heading.{index-is, refused-is}
+use Rattle.file.proofs.ReadSpread.{read-rows}
 use Rattle.listing.specs.Lines.{WIDTH, MOST, Cut, Shown, refusedText}
 use Rattle.listing.specs.Listing.{indexText, fileText, readText, listingTest, listingOf}
 
 -- ---- the index
 
--- an answered spread: every row is sound, and the rooms can be listed
-fine-by : (v : Verdict) (joins spread : ℕ) → spreadBy v joins ≡ SpreadAnswer.Spread spread → v ≡ Verdict.Fine
-unfolding spreadBy
-fine-by Verdict.Fine joins spread e = refl
-fine-by (Verdict.Refused r) joins spread e = let z : _≡_ {A = ℕ} 0 1 = cc in absurd (omega arith)
-
-pub shown-by : (n spread : ℕ) {order labels counts : List ℕ} → spreadOf n WIDTH labels counts ≡ SpreadAnswer.Spread spread
+-- sound rows can be listed
+pub shown-by : (n : ℕ) {order labels counts : List ℕ} → checkRows n n WIDTH labels counts ≡ Verdict.Fine
     → Cut order labels counts → Shown order labels counts
-unfolding spreadOf
-shown-by n spread {order} {labels} {counts} e cut =
-    let (rooms, sound) = rows-sound n n WIDTH labels counts (fine-by (checkRows n n WIDTH labels counts) _ spread e) in
+shown-by n {order} {labels} {counts} e cut =
+    let (rooms, sound) = rows-sound n n WIDTH labels counts e in
     record {
       cut = cut;
       sound =
@@ -41,12 +37,18 @@ shown-by n spread {order} {labels} {counts} e cut =
           subst (λ (m : ℕ). soundRow m m WIDTH labels counts v ≡ true) (sym (rooms .each)) (sound v (omega (arith, rooms .each)));
     }
 
+-- and the spread that was answered is theirs
+pub spread-said : (n : ℕ) {spread : ℕ} (labels counts : List ℕ) {a : SpreadAnswer} → checkRows n n WIDTH labels counts ≡ Verdict.Fine
+    → a ≡ spreadOf n WIDTH labels counts → spread ≡ spreadTold a .spread → spread ≡ spreadFigure n WIDTH labels counts
+unfolding spreadTold
+spread-said n labels counts e f g =
+    g ∙ ap (λ (x : SpreadAnswer). spreadTold x .spread) (f ∙ spread-sound n WIDTH labels counts e)
+
 -- ---- the reader's answer
 
 -- the text by the reader's answer and what it left in the rooms
 unfoldable pub openedText : Opened → List ℕ → List ℕ → List ℕ → List ℕ
-openedText (Opened.Index n k) order labels counts =
-    indexText (spreadOf n WIDTH labels counts) n k order labels counts
+openedText (Opened.Index n k) order labels counts = indexText n k order labels counts
 openedText (Opened.Refused r) order labels counts = refusedText (r .number)
 
 filled-text : (v : Verdict) (s order labels counts : List ℕ)
@@ -72,6 +74,13 @@ read-found s order labels counts {order'} {labels'} {counts'} e f =
     sym (ap (λ (b : Opened). openedText b order' labels' counts') f)
     ∙ (ap (λ (o : Outcome). openedText (o .answer) (o .order) (o .labels) (o .counts)) e
     ∙ filled-text (readTest s WIDTH (length order) (length labels) (length counts)) s order labels counts)
+
+-- the rows of an index that was found are sound
+pub rows-found : (s order labels counts : List ℕ) {order' labels' counts' : List ℕ} {a : Opened} {n k : ℕ}
+    → outcome a order' labels' counts' ≡ readOf s WIDTH order labels counts → a ≡ Opened.Index n k
+    → checkRows n n WIDTH labels' counts' ≡ Verdict.Fine
+rows-found s order labels counts {order'} {labels'} {counts'} e f =
+    read-rows s WIDTH order labels counts _ _ (sym (ap (λ (b : Opened). outcome b order' labels' counts') f) ∙ e)
 
 -- ---- the header
 

@@ -1,3 +1,4 @@
 pub mod IndexLaws
 pub mod LineLaws
+pub mod Printed
 pub mod TextLaws

@@ -5,7 +5,7 @@ use native.Mathlib.Omega.{arith}
 use mathlib.Core.Path.{_≡_, refl}
 use mathlib.Core.List.{List}
 use lib.ListN.{length, getD}
-use Rattle.rows.specs.Entry.{RanksIn}
+use Rattle.entry.specs.Entry.{RanksIn}
 use Rattle.rows.specs.Rooms.{Rooms, partOf, rowAt}
 use Rattle.rows.proofs.Laws.{Sound, row-sound}
 use Rattle.rows.proofs.RoomLaws.{part-is-row, length-row}

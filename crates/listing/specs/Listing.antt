@@ -5,30 +5,22 @@ use mathlib.Core.List.{List, _++_}
 use lib.ListN.{length, drop}
 use lib.Dec.{leb}
 use Rattle.basics.specs.Places.{sum}
-use Rattle.refusal.specs.Numbers.{SIZE, ROW}
+use Rattle.refusal.specs.Numbers.{SIZE}
 use Rattle.refusal.specs.Tests.{test, _then_}
 use Rattle.refusal.specs.declared.Verdict.{Verdict}
-use Rattle.rows.specs.declared.spread.SpreadAnswer.{SpreadAnswer}
-use Rattle.rows.specs.Spread.{spreadOf}
+use Rattle.rows.specs.Spread.{spreadFigure}
 use Rattle.file.specs.Reader.{framesOf, stopOf, headerTest, readTest, orderRead, labelsRead, countsRead}
 use Rattle.listing.specs.Lines.{WIDTH, MOST, headText, linesText, refusedText}
 
--- first line, then a line per frame
-unfoldable pub indexText : SpreadAnswer → ℕ → ℕ → List ℕ → List ℕ → List ℕ → List ℕ
-indexText (SpreadAnswer.Spread spread) n k order labels counts =
-    headText n k (sum counts) spread ++ linesText WIDTH order labels counts (length counts)
-indexText (SpreadAnswer.Refused r) n k order labels counts = refusedText ROW
+-- first line, with the spread of these rows, then a line per frame
+unfoldable pub indexText : ℕ → ℕ → List ℕ → List ℕ → List ℕ → List ℕ
+indexText n k order labels counts =
+    headText n k (sum counts) (spreadFigure n WIDTH labels counts)
+    ++ linesText WIDTH order labels counts (length counts)
 
 -- the index of n frames that a file gives
 unfoldable pub fileText : List ℕ → ℕ → List ℕ
-fileText s n =
-    indexText
-    (spreadOf n WIDTH (labelsRead s n WIDTH) (countsRead s n))
-    n
-    (stopOf s)
-    (orderRead s n)
-    (labelsRead s n WIDTH)
-    (countsRead s n)
+fileText s n = indexText n (stopOf s) (orderRead s n) (labelsRead s n WIDTH) (countsRead s n)
 
 -- unless the reader hands over an index, `refused` with the number
 unfoldable pub readText : Verdict → List ℕ → List ℕ

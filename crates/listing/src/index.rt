@@ -2,7 +2,9 @@
 ghost use mathlib.Core.Path.{_≡_};
 ghost use Prim.Native.Nat.{_*_, _≤_};
 ghost use lib.ListN.{length};
-ghost use Rattle.rows.specs.Spread.{spreadOf};
+ghost use Rattle.refusal.specs.declared.Verdict.{Verdict};
+ghost use Rattle.rows.specs.Rooms.{checkRows};
+ghost use Rattle.rows.specs.Spread.{spreadTold};
 ghost use Rattle.file.specs.Reader.{readTest, told};
 ghost use Rattle.listing.specs.Text.{Put};
 ghost use Rattle.listing.specs.Lines.{WIDTH as width, MOST, LONGEST, Cut};
@@ -10,9 +12,9 @@ ghost use Rattle.listing.specs.Listing.{listingOf, readText, indexText};
 use crate::FRAMES;
 use crate::WIDTH;
 use crate::lines;
+use entry::Entry;
 use file::Opened;
 use refusal::SIZE;
-use rows::entry::Entry;
 use rows::rooms::total;
 use rows::spread::SpreadAnswer;
 
@@ -80,7 +82,17 @@ fn read(
     show(n, k, order, labels, counts, out)
 }
 
-// The text of an index. The reader vouches for its rows, and the spread question tests them once more.
+// The spread that was answered, 0 of a refusal.
+fn spread_of(answer: SpreadAnswer) -> usize
+    ensures { λ r. ⌜ r ≡ spreadTold answer .spread ⌝ }
+{
+    match answer {
+        SpreadAnswer::Spread(spread) => spread,
+        SpreadAnswer::Refused(_) => 0,
+    }
+}
+
+// The text of an index. The reader vouches for its rows, so the spread question refuses none.
 fn show(
     n: usize,
     k: usize,
@@ -90,18 +102,17 @@ fn show(
     out: &mut [u8],
 ) -> usize
     requires { ⌜ Cut (now order) (now labels) (now counts) ⌝ }
+    requires { ⌜ checkRows n n width (now labels) (now counts) ≡ Verdict.Fine ⌝ }
     requires { ⌜ LONGEST ≤ length (now out) ⌝ }
     ensures put { λ r. ⌜
         Put (now (out .entry)) 0
-        (indexText (spreadOf n width (now (labels .entry)) (now (counts .entry))) n k (now (order .entry)) (now (labels .entry)) (now (counts .entry)))
+        (indexText n k (now (order .entry)) (now (labels .entry)) (now (counts .entry)))
         (now (out .exit)) r
         ⌝ }
     ensures near { λ r. ⌜ r ≤ LONGEST ⌝ }
 {
     let answer = rows::spread::spread(n, WIDTH, labels, counts);
-    let SpreadAnswer::Spread(spread) = answer else {
-        return lines::refused(out, refusal::ROW);
-    };
+    let spread = spread_of(answer);
     let entries = total(counts);
     let at = lines::head(out, n, k, entries, spread);
     lines::lines(out, at, order, labels, counts)

@@ -1,6 +1,6 @@
 // The listing of an index file: what `seamlist` prints, for the technician. At most 256 frames and 32 entries in a row.
 //
-// `text` makes the whole text from a file's bytes, and its contract says what the text is. `list` only reads and writes. A
+// `listing` makes the whole text from a file's bytes, and its contract says what the text is. `list` only reads and writes. A
 // read that fails counts as the input's end, so that what was read is judged: a file that is cut is refused. A write that
 // fails ends the listing.
 ghost use mathlib.Core.Path.{_≡_};

@@ -3,14 +3,14 @@
 ghost use Prim.Native.Nat.{_+_, _*_, _<_, _≤_};
 ghost use mathlib.Core.List.{_++_};
 ghost use lib.ListN.{length};
-ghost use Rattle.rows.specs.Entry.{rankOf, RanksIn};
+ghost use Rattle.entry.specs.Entry.{rankOf, RanksIn};
 ghost use Rattle.listing.specs.Text.{Put, decimal};
 ghost use Rattle.listing.specs.Lines.{WIDTH as width, Shown, entryText, entriesText, lineText, linesText, headText, refusedText};
 use crate::WIDTH;
 use crate::text;
-use rows::entry::Entry;
-use rows::entry::joins_of;
-use rows::entry::rank_of;
+use entry::Entry;
+use entry::joins_of;
+use entry::rank_of;
 use rows::part::row_part;
 
 // One entry of a row: a space, the hub's frame, a colon, the joins. The hub's frame is not its rank, but stands there in

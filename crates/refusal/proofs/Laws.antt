@@ -9,7 +9,8 @@ use native.Mathlib.Omega.{arith}
 use borrow.Author.Tests.{eq-eqb, ne-eqb}
 use Rattle.basics.specs.Places.{first}
 use Rattle.basics.proofs.Laws.{by-cases, less-one, end-none, none-end}
-use Rattle.refusal.specs.Tests.{test, _then_, refusal, testsFrom, lowestTest, numberOf, placeOf}
+use Rattle.refusal.specs.Tests.{test, _then_, refusal, testsFrom, lowestTest}
+use Rattle.refusal.specs.Told.{Told, verdictTold}
 use Rattle.refusal.specs.declared.Refusal.{Refusal}
 use Rattle.refusal.specs.declared.Verdict.{Verdict}
 use Rattle.refusal.specs.declared.Verdict.the-variants.{Fine, Refused}
@@ -120,9 +121,8 @@ pub vcase {ℓ} : {C : Type ℓ} (v : Verdict) → (v ≡ Fine → C) → ((r : 
 vcase Fine f g = f refl
 vcase (Refused r) f g = g r refl
 
--- a refused verdict is told by its number and place
-pub told : (r s : Refusal) → numberOf (Refused r) ≡ numberOf (Refused s) → placeOf (Refused r) ≡ placeOf (Refused s) → r ≡ s
-unfolding numberOf placeOf
+-- a refusal is told by its number and place
+pub told : (r s : Refusal) → r .number ≡ s .number → r .place ≡ s .place → r ≡ s
 told r s p q = λ i. record { number = p i; place = q i }
 
 -- ---- success is 0, and nothing else
@@ -135,10 +135,10 @@ pub fine-numbered : Numbered Fine
 fine-numbered r e = fine-not-refused e
 
 pub test-numbered : (b : Bool) (number place : ℕ) → 0 < number → Numbered (test b number place)
-unfolding test numberOf
+unfolding test verdictTold
 test-numbered true number place h r e = fine-not-refused e
 test-numbered false number place h r e =
-    let same : number ≡ r .number = ap numberOf e in
+    let same : number ≡ r .number = ap (λ (v : Verdict). verdictTold v .number) e in
     omega arith
 
 pub then-numbered : (v next : Verdict) → Numbered v → Numbered next → Numbered (v then next)
@@ -150,3 +150,16 @@ pub tests-numbered : (t : ℕ → Verdict) → ((u : ℕ) → Numbered (t u)) �
 unfolding testsFrom
 tests-numbered t each v zero = fine-numbered
 tests-numbered t each v (suc left) = then-numbered _ _ (each v) (tests-numbered t each (suc v) left)
+
+-- so number 0 means fine
+pub numbered-fine : (v : Verdict) → Numbered v → verdictTold v .number ≡ 0 → v ≡ Fine
+unfolding verdictTold
+numbered-fine Fine p e = refl
+numbered-fine (Refused r) p e = let some : 0 < r .number = p r refl in absurd (omega arith)
+
+-- and the numbers tell two verdicts apart
+pub verdicts-apart : (a b : Verdict) → Numbered a → Numbered b → verdictTold a ≡ verdictTold b → a ≡ b
+unfolding verdictTold
+verdicts-apart Fine b p q e = sym (numbered-fine b q (sym (ap (λ (t : Told). t .number) e)))
+verdicts-apart (Refused r) Fine p q e = numbered-fine (Refused r) p (ap (λ (t : Told). t .number) e)
+verdicts-apart (Refused r) (Refused s) p q e = ap Refused (told r s (ap (λ (t : Told). t .number) e) (ap (λ (t : Told). t .place) e))

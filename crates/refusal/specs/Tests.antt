@@ -39,12 +39,3 @@ lowestTest marked n number =
 unfoldable pub ifFine {ℓ} : {A : Type ℓ} → Verdict → A → A → A
 ifFine Fine made lent = made
 ifFine (Refused r) made lent = lent
-
--- the paper's number and place of a verdict: 0 and 0 where it is fine
-unfoldable pub numberOf : Verdict → ℕ
-numberOf Fine = 0
-numberOf (Refused r) = r .number
-
-unfoldable pub placeOf : Verdict → ℕ
-placeOf Fine = 0
-placeOf (Refused r) = r .place

@@ -1,5 +1,7 @@
+pub mod LaidLaws
 pub mod Laws
 pub mod MeetingLaws
+pub mod Named
 pub mod PairAnswer
 pub mod PairDepends
 pub mod PairLaws

@@ -11,12 +11,12 @@ use lib.ListN.{length, getD, drop, length-drop}
 use lib.Dec.{eqb}
 use lib.Seq.{drop-cons, drop-length, getD-drop}
 use Rattle.basics.proofs.Laws.{bcase, lt-or-ge, three-ways, cond-true, cond-false, either-left, cases, never-falls}
-use Rattle.rows.specs.Entry.{rankOf, joinsOf}
+use Rattle.entry.specs.Entry.{rankOf, joinsOf}
 use Rattle.rows.specs.Meetings.{Rises, meeting, meetingsAt, meetings, goesBefore, lesserOf, leastFrom, meetingOf, noSum, atRank, pastBy, lesserBy, bestOf}
 use Rattle.rows.specs.declared.merge.Meeting.{Meeting}
 use Rattle.rows.specs.declared.merge.Best.{Best}
 use Rattle.rows.specs.declared.merge.Best.the-variants.{Nowhere, Meet}
-use Rattle.rows.proofs.Laws.{joins-small}
+use Rattle.entry.proofs.Laws.{joins-small}
 
 -- every rank of the list is above r
 abbrev Above : ℕ → List ℕ → Type 0

@@ -17,14 +17,14 @@ use Rattle.theory.specs.Chains.{joins, Least}
 use Rattle.theory.specs.Distance.{far, said}
 use Rattle.theory.specs.Rows.{Row, Shared, at, answer}
 use Rattle.theory.proofs.Plain.{plain-literal}
-use Rattle.rows.specs.Entry.{rankOf, joinsOf, decode}
+use Rattle.entry.specs.Entry.{rankOf, joinsOf, decode}
 use Rattle.rows.specs.Meetings.{meeting, meetingsAt, meetings, goesBefore, lesserOf, leastFrom, meetingOf}
 use Rattle.rows.specs.Pair.{pairTests, pairOf, answered, saidOf}
 use Rattle.rows.specs.Rooms.{rowAt}
 use Rattle.rows.specs.declared.merge.Meeting.{Meeting}
 use Rattle.rows.specs.declared.merge.Best.{Best}
 use Rattle.rows.specs.declared.merge.Best.the-variants.{Nowhere, Meet}
-use Rattle.rows.proofs.Laws.{in-decoded}
+use Rattle.entry.proofs.Laws.{in-decoded}
 use Rattle.rows.proofs.PairLaws.{pair-asked, sound-whole, answer-fine}
 
 -- ---- sums of meetings

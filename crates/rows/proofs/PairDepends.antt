@@ -25,7 +25,8 @@ use Rattle.rows.specs.declared.pair.Answer.{Answer}
 use Rattle.rows.specs.declared.pair.Answer.the-variants as answers
 use Rattle.rows.proofs.Laws.{getD-part, row-sound}
 use Rattle.rows.proofs.PairLaws.{pair-asked, answer-fine, answer-refused}
-use Rattle.rows.proofs.RoomLaws.{count-unsound, rooms-numbered}
+use Rattle.rows.proofs.RoomLaws.{count-unsound}
+use Rattle.rows.proofs.Named.{frame-numbered, row-numbered}
 
 -- ---- nothing else
 
@@ -118,10 +119,9 @@ named-answered (Refused r) best p = p r refl
 
 -- every answer of the pair question is so named
 pub pair-named : (n w : ℕ) (labels counts : List ℕ) (s t : ℕ) → Named (pairOf n w labels counts s t)
-unfolding pairOf pairTests frameTests frameTest rowTest
+unfolding pairOf pairTests frameTest
 pair-named n w labels counts s t =
     named-answered (pairTests n w labels counts s t) _
-    (then-numbered (frameTests n w labels counts s) _
-    (then-numbered _ _ (rooms-numbered n w labels counts) (test-numbered _ FRAME 0 (omega arith)))
-    (then-numbered (frameTest n t 1) _ (test-numbered _ FRAME 1 (omega arith))
-    (then-numbered (rowTest n n w labels counts s) _ (test-numbered _ ROW s (omega arith)) (test-numbered _ ROW t (omega arith)))))
+    (then-numbered _ _ (frame-numbered n w labels counts s)
+    (then-numbered _ _ (test-numbered _ FRAME 1 (omega arith))
+    (then-numbered _ _ (row-numbered n n w labels counts s) (row-numbered n n w labels counts t))))

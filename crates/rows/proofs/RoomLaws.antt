@@ -14,7 +14,7 @@ use Rattle.refusal.specs.Sizes.{sizesFit, Sizes}
 use Rattle.refusal.specs.Tests.{test, refusal}
 use Rattle.refusal.specs.declared.Refusal.{Refusal}
 use Rattle.refusal.specs.declared.Verdict.the-variants.{Fine, Refused}
-use Rattle.refusal.proofs.Laws.{test-fine, test-refused, test-held, then-fine, after-fine, after-refused, Numbered, test-numbered, then-numbered, lowest-fine, lowest-refused, lowest-none, none-lowest}
+use Rattle.refusal.proofs.Laws.{test-fine, test-refused, test-held, then-fine, after-fine, after-refused, lowest-fine, lowest-refused, lowest-none, none-lowest}
 use Rattle.refusal.proofs.SizeLaws.{sizes-fit, sizes-held}
 use Rattle.rows.specs.Rooms.{totalOf, Rooms, RowLies, roomsFit, roomTests, rowsTest, checkRows, partOf, rowAt, soundRow, unsound, faultyEntry}
 use Rattle.rows.proofs.Laws.{row-ends, in-room, length-used}
@@ -136,9 +136,3 @@ total-sum counts h = simp (le-leb (length counts) 4096 h)
 pub total-over : (counts : List ℕ) → 4096 < length counts → totalOf counts ≡ 0
 unfolding totalOf
 total-over counts h = simp (lt-leb (length counts) 4096 h)
-
--- a refusal of the two tests has a number
-pub rooms-numbered : (n w : ℕ) (labels counts : List ℕ) → Numbered (roomTests n w labels counts)
-unfolding roomTests
-rooms-numbered n w labels counts =
-    then-numbered (test (sizesFit n w) SIZE 0) _ (test-numbered _ SIZE 0 (omega arith)) (test-numbered _ LENGTH 0 (omega arith))

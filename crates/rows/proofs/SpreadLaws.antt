@@ -10,19 +10,18 @@ use lib.ListN.{length, getD}
 use lib.Dec.{eqb}
 use lib.Seq.{drop-cons}
 use Rattle.basics.proofs.Laws.{bcase}
-use Rattle.refusal.specs.Numbers.{ROW}
 use Rattle.refusal.specs.declared.Refusal.{Refusal}
 use Rattle.refusal.specs.declared.Verdict.{Verdict}
 use Rattle.refusal.specs.declared.Verdict.the-variants as verdicts
-use Rattle.refusal.proofs.Laws.{Numbered, test-numbered, then-numbered}
-use Rattle.rows.specs.Entry.{rankOf}
+use Rattle.refusal.proofs.Laws.{Numbered}
+use Rattle.entry.specs.Entry.{rankOf}
 use Rattle.rows.specs.Meetings.{Rises}
-use Rattle.rows.specs.Rooms.{Rooms, part, rowAt, soundRow, checkRows, roomTests, rowsTest}
-use Rattle.rows.specs.Spread.{joinsAtZero, farthestIn, frontJoins, farthest, spreadBy, spreadOf, spreadTold, SpreadTold}
+use Rattle.rows.specs.Rooms.{Rooms, part, rowAt, soundRow, checkRows}
+use Rattle.rows.specs.Spread.{joinsAtZero, farthestIn, frontJoins, farthest, spreadFigure, spreadBy, spreadOf, spreadTold, SpreadTold}
 use Rattle.rows.specs.declared.spread.SpreadAnswer.{SpreadAnswer}
 use Rattle.rows.specs.declared.spread.SpreadAnswer.the-variants.{Spread, Refused}
-use Rattle.rows.proofs.Laws.{joins-small}
-use Rattle.rows.proofs.RoomLaws.{rooms-numbered}
+use Rattle.entry.proofs.Laws.{joins-small}
+use Rattle.rows.proofs.Named.{rows-numbered}
 use Rattle.rows.proofs.PairLaws.{row-in}
 
 -- ---- one row
@@ -85,13 +84,18 @@ farthest-small w labels counts (suc v) = omega (arith, small-in (rowAt w labels 
 module _ (n w : ℕ) (labels counts : List ℕ) where
   pub spread-fine : {d : ℕ} → checkRows n n w labels counts ≡ verdicts.Fine → d ≡ farthest w labels counts n
       → Spread (2 * d) ≡ spreadOf n w labels counts
-  unfolding spreadOf spreadBy
-  spread-fine e f = λ i. spreadBy (sym e i) (f i)
+  unfolding spreadOf spreadBy spreadFigure
+  spread-fine e f = λ i. spreadBy (sym e i) (2 * f i)
+
+  -- so it is the figure where every row is sound
+  pub spread-sound : checkRows n n w labels counts ≡ verdicts.Fine → spreadOf n w labels counts ≡ Spread (spreadFigure n w labels counts)
+  unfolding spreadFigure
+  spread-sound e = sym (spread-fine e refl)
 
   pub spread-refused : {r : Refusal} → checkRows n n w labels counts ≡ verdicts.Refused r
       → Refused r ≡ spreadOf n w labels counts
   unfolding spreadOf spreadBy
-  spread-refused e = λ i. spreadBy (sym e i) (farthest w labels counts n)
+  spread-refused e = λ i. spreadBy (sym e i) (spreadFigure n w labels counts)
 
 -- ---- the paper's numbers tell
 
@@ -115,7 +119,6 @@ named-by (verdicts.Refused r) d p = p r refl
 
 -- every answer of the spread question is so named
 pub spread-named : (n w : ℕ) (labels counts : List ℕ) → SpreadNamed (spreadOf n w labels counts)
-unfolding spreadOf checkRows rowsTest
+unfolding spreadOf
 spread-named n w labels counts =
-    named-by (checkRows n n w labels counts) (farthest w labels counts n)
-    (then-numbered (roomTests n w labels counts) _ (rooms-numbered n w labels counts) (test-numbered _ ROW _ (omega arith)))
+    named-by (checkRows n n w labels counts) (spreadFigure n w labels counts) (rows-numbered n n w labels counts)

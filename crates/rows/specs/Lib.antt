@@ -1,4 +1,4 @@
-pub mod Entry
+pub mod Laid
 pub mod Lookup
 pub mod Meetings
 pub mod Pair

@@ -5,7 +5,7 @@ use mathlib.Core.Bool.{Bool, cond, _&&_, _||_}
 use mathlib.Core.List.{List, [], _∷_, _++_}
 use lib.ListN.{length, getD}
 use lib.Dec.{eqb, leb, ltb}
-use Rattle.rows.specs.Entry.{rankOf, joinsOf}
+use Rattle.entry.specs.Entry.{rankOf, joinsOf}
 use Rattle.rows.specs.declared.merge.Meeting.{Meeting}
 use Rattle.rows.specs.declared.merge.Best.{Best}
 use Rattle.rows.specs.declared.merge.Best.the-variants.{Nowhere, Meet}

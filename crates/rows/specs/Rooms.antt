@@ -11,7 +11,7 @@ use Rattle.refusal.specs.Numbers.{SIZE, LENGTH, FRAME, ROW}
 use Rattle.refusal.specs.Sizes.{sizesFit, Sizes}
 use Rattle.refusal.specs.Tests.{test, _then_, lowestTest}
 use Rattle.refusal.specs.declared.Verdict.{Verdict}
-use Rattle.rows.specs.Entry.{rankOf, joinsOf}
+use Rattle.entry.specs.Entry.{rankOf, joinsOf}
 
 -- the label room has n * W places, the count room n
 unfoldable pub roomsFit : ℕ → ℕ → List ℕ → List ℕ → Bool

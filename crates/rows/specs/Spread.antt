@@ -5,7 +5,7 @@ use mathlib.Core.List.{List, [], _∷_}
 use lib.Dec.{eqb}
 use Rattle.refusal.specs.declared.Verdict.{Verdict}
 use Rattle.refusal.specs.declared.Verdict.the-variants as verdicts
-use Rattle.rows.specs.Entry.{rankOf, joinsOf}
+use Rattle.entry.specs.Entry.{rankOf, joinsOf}
 use Rattle.rows.specs.Rooms.{rowAt, checkRows}
 use Rattle.rows.specs.declared.spread.SpreadAnswer.{SpreadAnswer}
 use Rattle.rows.specs.declared.spread.SpreadAnswer.the-variants.{Spread, Refused}
@@ -29,14 +29,18 @@ unfoldable pub farthest : ℕ → List ℕ → List ℕ → ℕ → ℕ
 farthest w labels counts zero = 0
 farthest w labels counts (suc v) = max (farthestIn (rowAt w labels counts v)) (farthest w labels counts v)
 
--- behind fine tests: twice the largest joins
+-- the spread of n rows
+unfoldable pub spreadFigure : ℕ → ℕ → List ℕ → List ℕ → ℕ
+spreadFigure n w labels counts = 2 * farthest w labels counts n
+
+-- behind fine tests: the spread
 unfoldable pub spreadBy : Verdict → ℕ → SpreadAnswer
-spreadBy verdicts.Fine joins = Spread (2 * joins)
-spreadBy (verdicts.Refused r) joins = Refused r
+spreadBy verdicts.Fine spread = Spread spread
+spreadBy (verdicts.Refused r) spread = Refused r
 
 -- spread: 1, 2, 9 (lowest frame)
 unfoldable pub spreadOf : ℕ → ℕ → List ℕ → List ℕ → SpreadAnswer
-spreadOf n w labels counts = spreadBy (checkRows n n w labels counts) (farthest w labels counts n)
+spreadOf n w labels counts = spreadBy (checkRows n n w labels counts) (spreadFigure n w labels counts)
 
 -- the paper's numbers: a number, a place and the spread
 pub record SpreadTold : Type 0 where

@@ -3,9 +3,9 @@ ghost use mathlib.Core.Path.{_≡_};
 ghost use Prim.Native.Nat.{_+_, _*_, _≤_};
 ghost use denote.Ref.{ptr};
 ghost use lib.ListN.{length};
-ghost use Rattle.rows.specs.Entry.{entryBytes};
+ghost use Rattle.entry.specs.Entry.{entryBytes};
 ghost use Rattle.rows.specs.Rooms.{part};
-use crate::entry::Entry;
+use entry::Entry;
 
 // The first `count` entries of row v, which lie in the room.
 pub fn cut(labels: &[Entry], w: usize, v: usize, count: usize) -> &[Entry]

@@ -5,9 +5,9 @@ ghost use Prim.Native.Nat.{_*_, _<_, max};
 ghost use lib.ListN.{length};
 ghost use Rattle.rows.specs.Rooms.{rowAt};
 ghost use Rattle.rows.specs.Spread.{frontJoins};
-use crate::entry::Entry;
-use crate::entry::joins_of;
-use crate::entry::rank_of;
+use entry::Entry;
+use entry::joins_of;
+use entry::rank_of;
 
 // The joins of rank 0 at the front of row v, or 0. The row need not be tested: whatever its count, only its first place
 // is read.

@@ -1,9 +1,7 @@
-// Rows and the questions asked of them: the entry's layout, sound rows, the pair question, the row check and lookup, and
-// the spread.
+// Rows and the questions asked of them: sound rows, the pair question, the row check and lookup, and the spread.
 mod asked;
 pub mod check;
 mod cut;
-pub mod entry;
 mod farthest;
 pub mod lookup;
 mod merge;

@@ -2,11 +2,11 @@
 ghost use mathlib.Core.Path.{_≡_};
 ghost use Prim.Native.Nat.{_+_, _*_};
 ghost use denote.Ref.{ptr};
-ghost use Rattle.rows.specs.Entry.{entryBytes};
+ghost use Rattle.entry.specs.Entry.{entryBytes};
 ghost use Rattle.rows.specs.Lookup.{rowOf, rowStart};
 use crate::check::check_row;
 use crate::cut::cut;
-use crate::entry::Entry;
+use entry::Entry;
 use refusal::Verdict;
 
 // The used part of the row of v, and the empty part at the room's front where the row check refuses.

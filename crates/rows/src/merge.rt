@@ -6,9 +6,9 @@ ghost use Rattle.rows.specs.Meetings.{atRank, bestOf, lesserBy, meetingO
 ghost use Rattle.rows.specs.Pair.{RowIn};
 ghost use Rattle.rows.specs.Rooms.{rowAt};
 use crate::cut::cut;
-use crate::entry::Entry;
-use crate::entry::joins_of;
-use crate::entry::rank_of;
+use entry::Entry;
+use entry::joins_of;
+use entry::rank_of;
 
 // Above every sum of the joins of two entries: no meeting.
 const NO_SUM: usize = 131072;

@@ -3,9 +3,9 @@
 ghost use mathlib.Core.Path.{_≡_};
 ghost use Rattle.rows.specs.Pair.{pairOf, told};
 use crate::asked::check_pair;
-use crate::entry::Entry;
 use crate::merge::Best;
 use crate::merge::meet;
+use entry::Entry;
 use refusal::Refusal;
 use refusal::Verdict;
 

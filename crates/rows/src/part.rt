@@ -2,10 +2,10 @@
 ghost use mathlib.Core.Path.{_≡_};
 ghost use Prim.Native.Nat.{_+_, _*_};
 ghost use denote.Ref.{ptr};
-ghost use Rattle.rows.specs.Entry.{entryBytes};
+ghost use Rattle.entry.specs.Entry.{entryBytes};
 ghost use Rattle.rows.specs.Rooms.{inRoom, partOf, partStart};
 use crate::cut::cut;
-use crate::entry::Entry;
+use entry::Entry;
 
 // Whether `count` entries of row v lie in the room. A room has at most 4,096 rows, so that frame numbers are below that,
 // each at most 256 wide, so that no product wraps.

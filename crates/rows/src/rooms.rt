@@ -2,8 +2,9 @@
 // sum of a count room.
 ghost use mathlib.Core.Path.{_≡_};
 ghost use Prim.Native.Nat.{_*_, _≤_};
+ghost use Rattle.refusal.specs.Told.{verdictTold};
 ghost use Rattle.rows.specs.Rooms.{roomTests, totalOf};
-use crate::entry::Entry;
+use entry::Entry;
 use refusal;
 use refusal::LENGTH;
 use refusal::SIZE;
@@ -11,7 +12,8 @@ use refusal::Verdict;
 
 // 1 and 2 for a label room and a count room.
 pub fn check_rooms(n: usize, w: usize, labels: &[Entry], counts: &[u32]) -> Verdict
-    ensures { λ r. ⌜ r ≡ roomTests n w (now (labels .entry)) (now (counts .entry)) ⌝ }
+    ensures answer { λ r. ⌜ r ≡ roomTests n w (now (labels .entry)) (now (counts .entry)) ⌝ }
+    ensures numbers { λ r. ⌜ verdictTold r ≡ verdictTold (roomTests n w (now (labels .entry)) (now (counts .entry))) ⌝ }
 {
     let sizes = refusal::sizes::sizes_fit(n, w);
     if !sizes {

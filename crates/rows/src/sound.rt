@@ -7,9 +7,9 @@ ghost use lib.ListN.{length};
 ghost use Rattle.basics.specs.Places.{first, some};
 ghost use Rattle.rows.specs.Rooms.{faultyEntry, soundRow, unsound, Rooms};
 use crate::cut::cut;
-use crate::entry::Entry;
-use crate::entry::joins_of;
-use crate::entry::rank_of;
+use entry::Entry;
+use entry::joins_of;
+use entry::rank_of;
 
 // Whether no entry of a row's used part is faulty. `floor` is one more than the rank before, 0 at the first entry. Ranks
 // rise, so that only the last is held against the bound.

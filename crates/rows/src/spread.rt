@@ -1,11 +1,11 @@
 // The spread: twice the largest joins among used entries of rank 0, or 0 if there is none.
 ghost use mathlib.Core.Path.{_≡_};
 ghost use Rattle.rows.specs.Spread.{spreadOf, spreadTold};
-use crate::entry::Entry;
 use crate::farthest::front_joins;
 use crate::farthest::larger;
 use crate::rooms::check_rooms;
 use crate::sound::sound_row;
+use entry::Entry;
 use refusal::ROW;
 use refusal::Refusal;
 use refusal::Verdict;

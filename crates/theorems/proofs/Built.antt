@@ -10,14 +10,14 @@ use Rattle.refusal.specs.declared.Verdict.{Verdict}
 use Rattle.refusal.specs.declared.Verdict.the-variants.{Fine, Refused}
 use Rattle.theory.specs.Rows.{Row}
 use Rattle.theory.specs.Plain.{rowBy}
-use Rattle.rows.specs.Entry.{decode}
+use Rattle.entry.specs.Entry.{decode}
 use Rattle.rows.specs.Rooms.{rowAt}
-use Rattle.build.specs.Build.{labelsOf, countsOf, Laid, Tested, Outcome, outcome, afterWalks, afterTests, buildOf, builtEntries}
-use Rattle.build.specs.Walk.{rowsIn}
+use Rattle.rows.specs.Laid.{labelsOf, countsOf, Laid, rowsIn}
+use Rattle.rows.proofs.LaidLaws.{count-at, laid-long}
+use Rattle.build.specs.Build.{Tested, Outcome, outcome, afterWalks, afterTests, buildOf, builtEntries}
 use Rattle.build.specs.declared.Built.the-variants.{Entries}
 use Rattle.build.proofs.BuildOut.{not-made}
 use Rattle.build.proofs.BuildTests as build-tests
-use Rattle.build.proofs.RoomLaws.{count-at, laid-long}
 use Rattle.build.proofs.RunLaws.{rows-back}
 use Rattle.build.proofs.RunStops.{narrow-rows}
 use Rattle.theorems.proofs.Held.{Held}

@@ -8,7 +8,7 @@ use lib.ListN.{length, getD, take, drop, List·getD-eq-default}
 use Rattle.basics.specs.Places.{sum}
 use Rattle.basics.proofs.Laws.{lt-or-ge}
 use Rattle.links.proofs.Order.{order-passes}
-use Rattle.rows.specs.Entry.{decode}
+use Rattle.entry.specs.Entry.{decode}
 use Rattle.rows.specs.Pair.{pairOf}
 use Rattle.rows.specs.Rooms.{Rooms}
 use Rattle.rows.proofs.Laws.{entry-at}

@@ -14,12 +14,13 @@ use Rattle.theory.specs.Walk.{walks}
 use Rattle.theory.specs.Plain.{ones, joined, rowBy, answerBy}
 use Rattle.theory.proofs.Rule.{rankAt, joinsAt}
 use Rattle.theory.proofs.Plain.{plain-rising, plain-places, plain-walks}
-use Rattle.rows.specs.Entry.{rankOf, joinsOf, decode}
+use Rattle.entry.specs.Entry.{rankOf, joinsOf, decode}
 use Rattle.rows.specs.Meetings.{meetingOf}
 use Rattle.rows.specs.Pair.{pairTests, answered, pairOf, told}
 use Rattle.rows.specs.Rooms.{Rooms, rowAt, soundRow, rowsTest}
 use Rattle.rows.specs.declared.merge.Best.{Best}
-use Rattle.rows.proofs.Laws.{Sound, sound-row, sound-higher, length-decode, decoded}
+use Rattle.entry.proofs.Laws.{length-decode, decoded}
+use Rattle.rows.proofs.Laws.{Sound, sound-row, sound-higher}
 use Rattle.rows.proofs.RoomLaws.{length-row, sound-all}
 use Rattle.rows.proofs.PairLaws.{asked-fine}
 use Rattle.rows.proofs.PairAnswer.{pair-answer}

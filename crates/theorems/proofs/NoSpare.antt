@@ -17,10 +17,11 @@ use Rattle.theory.specs.Rows.{Row, instead}
 use Rattle.theory.specs.Plain.{rowBy}
 use Rattle.theory.proofs.Spare.{instead-at, instead-not}
 use Rattle.theory.proofs.Plain.{plain-spare}
-use Rattle.rows.specs.Entry.{rankOf, joinsOf, decode}
+use Rattle.entry.specs.Entry.{rankOf, joinsOf, decode}
 use Rattle.rows.specs.Pair.{pairTests}
 use Rattle.rows.specs.Rooms.{Rooms, rowAt}
-use Rattle.rows.proofs.Laws.{Sound, row-inside, row-place, entry-at, decode-append}
+use Rattle.entry.proofs.Laws.{decode-append}
+use Rattle.rows.proofs.Laws.{Sound, row-inside, row-place, entry-at}
 use Rattle.rows.proofs.RoomLaws.{length-row}
 use Rattle.theorems.specs.Demands.{askedOf, labelsWithout, countsWithout, hubAt}
 use Rattle.theorems.proofs.Held.{Held, held-length, held-sound, held-answer, sound-fine, sound-answer}

@@ -12,7 +12,7 @@ use Rattle.theory.specs.Plain.{ones, joinsTo}
 use Rattle.theory.proofs.DistLeast.{least-one, said-joins, said-is}
 use Rattle.theory.proofs.DistPlain.{joins-is}
 use Rattle.theory.proofs.Plain.{plain-in-row}
-use Rattle.rows.specs.Entry.{decode}
+use Rattle.entry.specs.Entry.{decode}
 use Rattle.rows.specs.Rooms.{rowAt}
 use Rattle.theorems.specs.Demands.{Joins, RowRule}
 use Rattle.theorems.proofs.Held.{Held}

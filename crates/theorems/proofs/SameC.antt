@@ -6,28 +6,28 @@ use mathlib.Core.List.{List, []}
 use denote.Ref.{now}
 use lib.ListN.{getD}
 use Rattle.capi.specs.Outs.{Outs}
-use Rattle.capi.proofs.seam_check_links.Kinds as seam-check-links-kinds
-use Rattle.capi.proofs.seam_check_links.Reads as seam-check-links-reads
-use Rattle.capi.proofs.seam_check_order.Kinds as seam-check-order-kinds
-use Rattle.capi.proofs.seam_check_order.Reads as seam-check-order-reads
-use Rattle.capi.proofs.seam_order_by_degree.Kinds as seam-order-by-degree-kinds
-use Rattle.capi.proofs.seam_order_by_degree.Reads as seam-order-by-degree-reads
-use Rattle.capi.proofs.seam_build.Kinds as seam-build-kinds
-use Rattle.capi.proofs.seam_build.Reads as seam-build-reads
-use Rattle.capi.proofs.seam_pair.Kinds as seam-pair-kinds
-use Rattle.capi.proofs.seam_pair.Reads as seam-pair-reads
-use Rattle.capi.proofs.seam_check_row.Kinds as seam-check-row-kinds
-use Rattle.capi.proofs.seam_check_row.Reads as seam-check-row-reads
-use Rattle.capi.proofs.seam_row.Kinds as seam-row-kinds
-use Rattle.capi.proofs.seam_row.Reads as seam-row-reads
-use Rattle.capi.proofs.seam_spread.Kinds as seam-spread-kinds
-use Rattle.capi.proofs.seam_spread.Reads as seam-spread-reads
-use Rattle.capi.proofs.seam_write.Kinds as seam-write-kinds
-use Rattle.capi.proofs.seam_write.Reads as seam-write-reads
-use Rattle.capi.proofs.seam_header.Kinds as seam-header-kinds
-use Rattle.capi.proofs.seam_header.Reads as seam-header-reads
-use Rattle.capi.proofs.seam_read.Kinds as seam-read-kinds
-use Rattle.capi.proofs.seam_read.Reads as seam-read-reads
+use Rattle.capi.proofs.link_calls.seam_check_links.Kinds as seam-check-links-kinds
+use Rattle.capi.proofs.link_calls.seam_check_links.Reads as seam-check-links-reads
+use Rattle.capi.proofs.link_calls.seam_check_order.Kinds as seam-check-order-kinds
+use Rattle.capi.proofs.link_calls.seam_check_order.Reads as seam-check-order-reads
+use Rattle.capi.proofs.link_calls.seam_order_by_degree.Kinds as seam-order-by-degree-kinds
+use Rattle.capi.proofs.link_calls.seam_order_by_degree.Reads as seam-order-by-degree-reads
+use Rattle.capi.proofs.build_calls.seam_build.Kinds as seam-build-kinds
+use Rattle.capi.proofs.build_calls.seam_build.Reads as seam-build-reads
+use Rattle.capi.proofs.row_calls.seam_pair.Kinds as seam-pair-kinds
+use Rattle.capi.proofs.row_calls.seam_pair.Reads as seam-pair-reads
+use Rattle.capi.proofs.row_calls.seam_check_row.Kinds as seam-check-row-kinds
+use Rattle.capi.proofs.row_calls.seam_check_row.Reads as seam-check-row-reads
+use Rattle.capi.proofs.row_calls.seam_row.Kinds as seam-row-kinds
+use Rattle.capi.proofs.row_calls.seam_row.Reads as seam-row-reads
+use Rattle.capi.proofs.row_calls.seam_spread.Kinds as seam-spread-kinds
+use Rattle.capi.proofs.row_calls.seam_spread.Reads as seam-spread-reads
+use Rattle.capi.proofs.file_calls.seam_write.Kinds as seam-write-kinds
+use Rattle.capi.proofs.file_calls.seam_write.Reads as seam-write-reads
+use Rattle.capi.proofs.file_calls.seam_header.Kinds as seam-header-kinds
+use Rattle.capi.proofs.file_calls.seam_header.Reads as seam-header-reads
+use Rattle.capi.proofs.file_calls.seam_read.Kinds as seam-read-kinds
+use Rattle.capi.proofs.file_calls.seam_read.Reads as seam-read-reads
 use Rattle.theorems.proofs.Same.{Same, both}
 
 -- what a call gives back

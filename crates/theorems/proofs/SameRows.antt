@@ -2,12 +2,12 @@
 -- where it lies.
 use mathlib.Core.Path.{_≡_, sym, _∙_}
 use denote.Ref.{now, ptr}
-use Rattle.rows.proofs.entry.rank_of.Kinds as rank-of-kinds
-use Rattle.rows.proofs.entry.rank_of.Reads as rank-of-reads
-use Rattle.rows.proofs.entry.joins_of.Kinds as joins-of-kinds
-use Rattle.rows.proofs.entry.joins_of.Reads as joins-of-reads
-use Rattle.rows.proofs.entry.entry_of.Kinds as entry-of-kinds
-use Rattle.rows.proofs.entry.entry_of.Reads as entry-of-reads
+use Rattle.entry.proofs.rank_of.Kinds as rank-of-kinds
+use Rattle.entry.proofs.rank_of.Reads as rank-of-reads
+use Rattle.entry.proofs.joins_of.Kinds as joins-of-kinds
+use Rattle.entry.proofs.joins_of.Reads as joins-of-reads
+use Rattle.entry.proofs.entry_of.Kinds as entry-of-kinds
+use Rattle.entry.proofs.entry_of.Reads as entry-of-reads
 use Rattle.rows.proofs.part.row_part.Kinds as row-part-kinds
 use Rattle.rows.proofs.part.row_part.Reads as row-part-reads
 use Rattle.rows.proofs.check.check_rows.Kinds as check-rows-kinds
@@ -40,16 +40,16 @@ pub row-part-same : Same 1 row-part-kinds.ps row-part-kinds.r row-part-reads.Pos
 row-part-same κs a r₁ r₂ s₁ s₂ p q = (p .0 ∙ sym (q .0), p .1 ∙ sym (q .1))
 
 pub check-rooms-same : SameAnswer 2 check-rooms-kinds.ps check-rooms-kinds.r check-rooms-reads.Post
-check-rooms-same κs a r₁ r₂ s₁ s₂ p q = p ∙ sym q
+check-rooms-same κs a r₁ r₂ s₁ s₂ p q = p .0 ∙ sym (q .0)
 
 pub total-same : SameAnswer 1 total-kinds.ps total-kinds.r total-reads.Post
 total-same κs a r₁ r₂ s₁ s₂ p q = p .0 ∙ sym (q .0)
 
 pub check-rows-same : SameAnswer 2 check-rows-kinds.ps check-rows-kinds.r check-rows-reads.Post
-check-rows-same κs a r₁ r₂ s₁ s₂ p q = p ∙ sym q
+check-rows-same κs a r₁ r₂ s₁ s₂ p q = p .0 ∙ sym (q .0)
 
 pub check-row-same : SameAnswer 2 check-row-kinds.ps check-row-kinds.r check-row-reads.Post
-check-row-same κs a r₁ r₂ s₁ s₂ p q = p ∙ sym q
+check-row-same κs a r₁ r₂ s₁ s₂ p q = p .0 ∙ sym (q .0)
 
 pub pair-same : SameAnswer 2 pair-kinds.ps pair-kinds.r pair-reads.Post
 pair-same κs a r₁ r₂ s₁ s₂ p q = p .0 ∙ sym (q .0)

@@ -11,14 +11,13 @@ use Rattle.theory.specs.Plain.{joinsTo, rowBy}
 use Rattle.refusal.specs.Sizes.{framesFit, widthFits, placesFit, sizesFit}
 use Rattle.links.specs.Links.{startsRight, degree, holds, faultyLink, faultyList, sizesTest, startsTest, listsTest}
 use Rattle.links.specs.Order.{faultyRank, orderTest, before, ahead, orderByDegree, degreeTests, degreeOf}
-use Rattle.rows.specs.Entry.{rankOf, joinsOf, entryOf, decode, encode}
+use Rattle.entry.specs.Entry.{rankOf, joinsOf, entryOf, decode, encode}
 use Rattle.rows.specs.Rooms.{roomsFit, roomTests, part, rowAt, faultyEntry, soundRow, frameTest, frameTests, rowTest, rowsTest}
 use Rattle.rows.specs.Meetings.{meetingsAt, meetings, goesBefore, lesserOf, leastFrom, meetingOf}
 use Rattle.rows.specs.Pair.{pairTests, answered, pairOf}
 use Rattle.rows.specs.declared.pair.Answer.the-variants as answers
+use Rattle.rows.specs.Laid.{labelsOf, countsOf}
 use Rattle.build.specs.Build.{
-  labelsOf,
-  countsOf,
   buildSizes,
   buildRooms,
   buildTests,

@@ -15,7 +15,7 @@ use Rattle.theory.specs.Distance.{far}
 use Rattle.theory.specs.Rows.{In}
 use Rattle.theory.specs.Walk.{walks}
 use Rattle.theory.specs.Plain.{ones, joined}
-use Rattle.rows.specs.Entry.{rankOf, decode}
+use Rattle.entry.specs.Entry.{rankOf, decode}
 use Rattle.rows.specs.Rooms.{rowAt}
 use Rattle.rows.specs.Pair.{pairOf, told, saidOf}
 

@@ -10,7 +10,7 @@ use Rattle.refusal.specs.declared.Verdict.{Verdict}
 use Rattle.theory.specs.Links.{hubOf}
 use Rattle.theory.specs.Plain.{joinsTo}
 use Rattle.links.specs.Order.{ordered, degreeOf}
-use Rattle.rows.specs.Entry.{decode}
+use Rattle.entry.specs.Entry.{decode}
 use Rattle.rows.specs.Rooms.{rowAt}
 use Rattle.rows.specs.Pair.{pairOf}
 use Rattle.rows.specs.declared.pair.Answer.{Answer}

@@ -102,7 +102,10 @@ pub fn rule_rows(n: usize, k: usize, s: &[u32], p: &[u32], o: &[u32]) -> Vec<Vec
     for r in 0..k {
         let h = o[r] as usize;
         for v in 0..n {
-            let Some(joins) = d[h][v] else { continue };
+            let joins = match d[h][v] {
+                Some(joins) => joins,
+                None => continue,
+            };
             let spare = o[..r].iter().any(|&x| match (d[h][x as usize], d[x as usize][v]) {
                 (Some(a), Some(b)) => a + b == joins,
                 _ => false,
@@ -255,7 +258,7 @@ impl Bits<'_> {
         let first = self.at;
         let mut value = 0;
         for at in first..first + width {
-            let Some(byte) = self.bytes.get(at / 8) else { return Err(Refusal::Short(first)) };
+            let byte = self.bytes.get(at / 8).ok_or(Refusal::Short(first))?;
             value = 2 * value + (byte >> (7 - at % 8) & 1) as usize;
         }
         self.at += width;

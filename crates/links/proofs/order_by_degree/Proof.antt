@@ -1,9 +1,15 @@
 -- `links::order_by_degree` meets its contract: a refusal leaves the room as lent; where the tests are passed it is filled.
-use mathlib.Core.Path.{sym, _∙_}
+use mathlib.Core.Path.{_≡_, sym, ap, _∙_}
 use borrow.Author.Needs.{needs}
+use Rattle.refusal.specs.Told.{verdictTold}
+use Rattle.links.specs.Order.{Ordered}
 use Rattle.links.proofs.Placing.{degree-passed, degree-refused, degree-filled}
 use Rattle.links.proofs.order_by_degree.Statement.{statement}
 use Rattle.links.proofs.order_by_degree.Tie as tie
+
+-- the verdict and the room, and the verdict's numbers
+both : {a b : Ordered} → a ≡ b → (a ≡ b) × (verdictTold (a .verdict) ≡ verdictTold (b .verdict))
+both e = (e, ap (λ (o : Ordered). verdictTold (o .verdict)) e)
 
 block-tests-requires : tie.Need-block-tests-requires
 block-tests-requires c κs = search needs
@@ -17,7 +23,7 @@ enum-told-2 c = search needs
 returns : tie.Need-returns
 returns c =
     let told = c .enum-told2 .given .1 in
-    degree-refused _ _ _ _ (sym (c .before .before .block-tests .ensures) ∙ told) told
+    both (degree-refused _ _ _ _ (sym (c .before .before .block-tests .ensures) ∙ told) told)
 
 fill-requires : tie.Need-fill-requires
 fill-requires c κs = degree-passed _ _ _ _ (sym (c .before .before .before .block-tests .ensures) ∙ c .before .enum-told .given .1)
@@ -27,8 +33,9 @@ same-length c = search needs
 
 returns-2 : tie.Need-returns-2
 returns-2 c =
-    degree-filled _ _ _ _ _ (sym (c .before .before .before .before .before .before .block-tests .ensures) ∙ c .before .before .before .before .enum-told .given .1)
-    (c .before .before .fill .ensures)
+    both
+    (degree-filled _ _ _ _ _ (sym (c .before .before .before .before .before .before .block-tests .ensures) ∙ c .before .before .before .before .enum-told .given .1)
+    (c .before .before .fill .ensures))
 
 pub order-by-degree-spec : {M : Type 1} → statement M
 order-by-degree-spec =

@@ -10,9 +10,6 @@ Inv-loop n w k labels counts sums tally₀ s₀ tally s = Unit {0}
 abbrev μ-loop : tie.MeasureT-loop
 μ-loop n w k labels counts sums tally₀ s₀ tally s = n - s
 
-built-requires : tie.Need-built-requires Inv-loop μ-loop
-built-requires c κs = search needs
-
 loop-holds : tie.Need-loop-holds Inv-loop μ-loop
 loop-holds c = search needs
 
@@ -40,7 +37,6 @@ compare-spec =
     (tie.spec
     Inv-loop
     μ-loop
-    built-requires
     loop-holds
     sums-of-requires
     compare-row-requires

@@ -1,81 +1,73 @@
--- Invariant: the rooms keep their lengths, and n is at most 200, so that k + 1 fits. Each turn is one rank on, up to n.
-use Prim.Native.Nat.{suc, _-_, _≤_}
-use mathlib.Core.Path.{_≡_}
+-- Parts within the rooms: neither n nor w is above 200, so that n * w is at most 40,000.
+use Prim.Native.Nat.{ℕ, _*_, _≤_}
+use native.Mathlib.Nat.{mul-le-mul}
+use native.Mathlib.Omega.{arith}
+use mathlib.Core.Path.{sym}
+use lib.Seq.{length-take-le}
 use borrow.Author.Needs.{needs}
-use lib.ListN.{length}
 use Rattle.blocks.proofs.random.try_order.Statement.{statement}
 use Rattle.blocks.proofs.random.try_order.Tie as tie
 
-abbrev Inv-loop : tie.InvT-loop
-Inv-loop is-random seed n w starts places order labels₀ counts₀ met₀ queue₀ sums₀ tally₀ k₀
-    labels counts met queue sums tally k =
-    (n ≤ 200) × (length labels ≡ length labels₀) × (length counts ≡ length counts₀) ×
-    (length met ≡ length met₀) × (length queue ≡ length queue₀) × (length sums ≡ length sums₀)
+small : {n w : ℕ} → n ≤ 200 → w ≤ 200 → n * w ≤ 40000
+small {n} {w} n-small w-small = mul-le-mul {n₁ = n} {m₁ = w} {n₂ = 200} {m₂ = 200} n-small w-small
 
-abbrev μ-loop : tie.MeasureT-loop
-μ-loop is-random seed n w starts places order labels₀ counts₀ met₀ queue₀ sums₀ tally₀ k₀
-    labels counts met queue sums tally k =
-    suc n - k
+mul-size : tie.Need-mul-size
+mul-size c = record { fits = omega (arith, small (c .before .before .before .pre .0) (c .before .before .before .pre .1)) }
 
-fill-order-requires : tie.Need-fill-order-requires Inv-loop μ-loop
+fill-order-requires : tie.Need-fill-order-requires
 fill-order-requires c κs = search needs
 
-loop-holds : tie.Need-loop-holds Inv-loop μ-loop
-loop-holds c = search needs
+array-borrow-prefix-labels : tie.Need-array-borrow-prefix-labels
+array-borrow-prefix-labels c = small (search needs) (search needs)
 
-try-stop-requires : tie.Need-try-stop-requires Inv-loop μ-loop
-try-stop-requires c κs = search needs
+slice-aggregate-try-stops : tie.Need-slice-aggregate-try-stops
+slice-aggregate-try-stops c = sym (length-take-le _ _ (small (search needs) (search needs)))
 
-take-hub-requires : tie.Need-take-hub-requires Inv-loop μ-loop
-take-hub-requires c κs = search needs
+array-borrow-prefix-counts : tie.Need-array-borrow-prefix-counts
+array-borrow-prefix-counts c = search needs
 
-add-k : tie.Need-add-k Inv-loop μ-loop
-add-k c = search needs
+slice-aggregate-try-stops-2 : tie.Need-slice-aggregate-try-stops-2
+slice-aggregate-try-stops-2 c = sym (length-take-le _ _ (search needs))
 
-loop-less : tie.Need-loop-less Inv-loop μ-loop
-loop-less c = search needs
+array-borrow-prefix-met : tie.Need-array-borrow-prefix-met
+array-borrow-prefix-met c = search needs
 
-loop-again : tie.Need-loop-again Inv-loop μ-loop
-loop-again c = search needs
+slice-aggregate-try-stops-3 : tie.Need-slice-aggregate-try-stops-3
+slice-aggregate-try-stops-3 c = sym (length-take-le _ _ (search needs))
 
-same-length : tie.Need-same-length Inv-loop μ-loop
+array-borrow-prefix-queue : tie.Need-array-borrow-prefix-queue
+array-borrow-prefix-queue c = search needs
+
+slice-aggregate-try-stops-4 : tie.Need-slice-aggregate-try-stops-4
+slice-aggregate-try-stops-4 c = sym (length-take-le _ _ (search needs))
+
+slice-aggregate-try-stops-5 : tie.Need-slice-aggregate-try-stops-5
+slice-aggregate-try-stops-5 c = search needs
+
+try-stops-requires : tie.Need-try-stops-requires
+try-stops-requires c κs = search needs
+
+same-length : tie.Need-same-length
 same-length c = search needs
 
-same-length-2 : tie.Need-same-length-2 Inv-loop μ-loop
-same-length-2 c = search needs
-
-same-length-3 : tie.Need-same-length-3 Inv-loop μ-loop
-same-length-3 c = search needs
-
-same-length-4 : tie.Need-same-length-4 Inv-loop μ-loop
-same-length-4 c = search needs
-
-same-length-5 : tie.Need-same-length-5 Inv-loop μ-loop
-same-length-5 c = search needs
-
-same-length-6 : tie.Need-same-length-6 Inv-loop μ-loop
-same-length-6 c = search needs
-
-returns : tie.Need-returns Inv-loop μ-loop
+returns : tie.Need-returns
 returns c = search needs
 
 pub try-order-spec : {M : Type 1} → statement M
 try-order-spec =
     tie.close
     (tie.spec
-    Inv-loop
-    μ-loop
+    mul-size
     fill-order-requires
-    loop-holds
-    try-stop-requires
-    take-hub-requires
-    add-k
-    loop-less
-    loop-again
+    array-borrow-prefix-labels
+    slice-aggregate-try-stops
+    array-borrow-prefix-counts
+    slice-aggregate-try-stops-2
+    array-borrow-prefix-met
+    slice-aggregate-try-stops-3
+    array-borrow-prefix-queue
+    slice-aggregate-try-stops-4
+    slice-aggregate-try-stops-5
+    try-stops-requires
     same-length
-    same-length-2
-    same-length-3
-    same-length-4
-    same-length-5
-    same-length-6
     returns)

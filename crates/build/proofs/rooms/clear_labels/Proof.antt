@@ -2,7 +2,7 @@
 use Prim.Native.Nat.{_-_}
 use native.Mathlib.Omega.{arith}
 use lib.ListN.{length}
-use Rattle.build.proofs.RoomClear.{Cleared, clear-none, clear-more, clear-all}
+use Rattle.walk.proofs.RoomClear.{Cleared, clear-none, clear-more, clear-all}
 use Rattle.build.proofs.rooms.clear_labels.Statement.{statement}
 use Rattle.build.proofs.rooms.clear_labels.Tie as tie
 

@@ -1,8 +1,8 @@
 -- Each case gives its own verdict.
 use mathlib.Core.Path.{sym, ap, _∙_}
 use borrow.Author.Needs.{needs}
-use Rattle.build.specs.Settle.{verdictOf}
-use Rattle.build.specs.declared.settle.Walked.{Walked}
+use Rattle.walk.specs.declared.Walked.{Walked}
+use Rattle.build.specs.Build.{verdictOf}
 use Rattle.build.proofs.run.verdict_of.Statement.{statement}
 use Rattle.build.proofs.run.verdict_of.Tie as tie
 

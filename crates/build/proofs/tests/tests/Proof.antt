@@ -52,7 +52,7 @@ returns-3 c =
     ∙ sym
     (tests-links _ _ _ _ _ _ _ _ _ _ (sym (f .before .sizes-fit .ensures) ∙ not-false _ (f .if1 .left))
     (sym (g .before .rooms-fit .ensures) ∙ not-false _ (g .if2 .left)) _
-    (sym (c .before .before .check-links .ensures) ∙ c .enum-told2 .given .1))
+    (sym (c .before .before .check-links .ensures .0) ∙ c .enum-told2 .given .1))
 
 check-order-requires : tie.Need-check-order-requires
 check-order-requires c κs = search needs
@@ -61,11 +61,11 @@ returns-4 : tie.Need-returns-4
 returns-4 c =
     let g = c .before .before .before .before in
     let f = g .before .before in
-    c .check-order .ensures
+    c .check-order .ensures .0
     ∙ sym
     (tests-order _ _ _ _ _ _ _ _ _ _ (sym (f .before .sizes-fit .ensures) ∙ not-false _ (f .if1 .left))
     (sym (g .before .rooms-fit .ensures) ∙ not-false _ (g .if2 .left))
-    (sym (c .before .before .before .check-links .ensures) ∙ c .before .enum-told .given .1))
+    (sym (c .before .before .before .check-links .ensures .0) ∙ c .before .enum-told .given .1))
 
 pub tests-spec : {M : Type 1} → statement M
 tests-spec =

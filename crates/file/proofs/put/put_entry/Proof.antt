@@ -7,7 +7,7 @@ use native.Mathlib.Nat.{lt-of-lt-of-le}
 use borrow.Author.Needs.{needs}
 use lib.ListN.{set}
 use lib.Pow.{pow-mono, low, mod-mod-pow}
-use Rattle.rows.specs.Entry.{rankOf, joinsOf}
+use Rattle.entry.specs.Entry.{rankOf, joinsOf}
 use Rattle.file.specs.declared.put.Pen.{Pen}
 use Rattle.file.specs.Bits.{Legal, num}
 use Rattle.file.specs.Layout.{pairFields}

@@ -3,7 +3,7 @@ use mathlib.Core.Path.{ap, ap₂, _∙_}
 use native.Mathlib.Omega.{arith}
 use borrow.Author.Needs.{needs}
 use lib.ListN.{set}
-use Rattle.rows.specs.Entry.{entryOf}
+use Rattle.entry.specs.Entry.{entryOf}
 use Rattle.file.specs.Bits.{byteLen}
 use Rattle.file.specs.Reader.{entryAt}
 use Rattle.file.proofs.Bits.{pair-parts}

@@ -91,7 +91,7 @@ returns-3 : tie.Need-returns-3
 returns-3 c =
     let o = c .before .before in
     let told = c .enum-told2 .given .1 in
-    sym (left-over (o .before) ∙ after-refused _ (sym (o .check-order .ensures) ∙ told) ∙ sym told)
+    sym (left-over (o .before) ∙ after-refused _ (sym (o .check-order .ensures .0) ∙ told) ∙ sym told)
 
 check-rows-requires : tie.Need-check-rows-requires
 check-rows-requires c κs = search needs
@@ -99,7 +99,7 @@ check-rows-requires c κs = search needs
 returns-4 : tie.Need-returns-4
 returns-4 c =
     let o = c .before .before .before in
-    sym (left-over (o .before) ∙ after-fine _ (sym (o .check-order .ensures) ∙ c .before .enum-told .given .1) ∙ sym (c .check-rows .ensures))
+    sym (left-over (o .before) ∙ after-fine _ (sym (o .check-order .ensures .0) ∙ c .before .enum-told .given .1) ∙ sym (c .check-rows .ensures .0))
 
 pub tests-spec : {M : Type 1} → statement M
 tests-spec =

@@ -2,8 +2,9 @@
 use native.Mathlib.Omega.{arith}
 use mathlib.Core.Path.{_∙_}
 use borrow.Author.Needs.{needs}
+use Rattle.listing.specs.Lines.{Cut}
 use Rattle.listing.proofs.TextLaws.{put-as}
-use Rattle.listing.proofs.IndexLaws.{openedText, refused-text, read-found}
+use Rattle.listing.proofs.IndexLaws.{openedText, refused-text, read-found, rows-found}
 use Rattle.listing.proofs.index.read.Statement.{statement}
 use Rattle.listing.proofs.index.read.Tie as tie
 
@@ -46,7 +47,12 @@ returns c =
     )
 
 show-requires : tie.Need-show-requires
-show-requires c κs = search needs
+show-requires c κs =
+    let o = c .before .before .before .before .before in
+    let r = o .before .before .before .before .before .before .before .before in
+    let last = r .read .last .1 .1 in
+    let cut : Cut (last .0) (last .1 .0) (last .1 .1 .0) = search needs in
+    (cut, (rows-found _ _ _ _ (r .read .ensures .0) (o .opened .given .1), r .before .before .before .before .before .before .before .before .before .pre .1))
 
 same-length-5 : tie.Need-same-length-5
 same-length-5 c = search needs

@@ -6,7 +6,7 @@ use mathlib.Core.Path.{_≡_, sym, ap, subst, _∙_}
 use mathlib.Core.List.{List}
 use lib.ListN.{length}
 use denote.Ref.{now}
-use Rattle.rows.specs.Entry.{RanksIn}
+use Rattle.entry.specs.Entry.{RanksIn}
 use Rattle.rows.specs.Rooms.{rowAt}
 use Rattle.listing.specs.Text.{Put}
 use Rattle.listing.specs.Lines.{WIDTH, texts, lineText, linesText}

@@ -17,7 +17,7 @@ enum-told-2 c = search needs
 returns : tie.Need-returns
 returns c =
     let told = c .enum-told2 .given .1 in
-    told ∙ sym (frame-rooms _ _ _ _ _ (sym (c .before .before .check-rooms .ensures) ∙ told))
+    told ∙ sym (frame-rooms _ _ _ _ _ (sym (c .before .before .check-rooms .ensures .0) ∙ told))
 
 refused-requires : tie.Need-refused-requires
 refused-requires c κs = search needs
@@ -27,14 +27,14 @@ returns-2 c =
     let d = c .before .before in
     c .refused .ensures
     ∙ sym
-    (frame-alone _ _ _ _ _ (sym (d .before .before .check-rooms .ensures) ∙ d .enum-told .given .1)
+    (frame-alone _ _ _ _ _ (sym (d .before .before .check-rooms .ensures .0) ∙ d .enum-told .given .1)
     ∙ frame-refused 0 (c .before .if1 .taken))
 
 returns-3 : tie.Need-returns-3
 returns-3 c =
     let d = c .before in
     sym
-    (frame-alone _ _ _ _ _ (sym (d .before .before .check-rooms .ensures) ∙ d .enum-told .given .1)
+    (frame-alone _ _ _ _ _ (sym (d .before .before .check-rooms .ensures .0) ∙ d .enum-told .given .1)
     ∙ frame-fine 0 (c .if1 .left))
 
 pub check-frame-spec : {M : Type 1} → statement M

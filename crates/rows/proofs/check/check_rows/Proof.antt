@@ -1,6 +1,8 @@
 -- The rooms' refusal stands; behind it the lowest unsound frame decides.
 use mathlib.Core.Path.{sym, _∙_}
 use borrow.Author.Needs.{needs}
+use Rattle.basics.proofs.Laws.{read-off}
+use Rattle.refusal.specs.Told.{verdictTold}
 use denote.Ref.{now}
 use Rattle.rows.specs.Rooms.{Rooms}
 use Rattle.rows.proofs.RoomLaws.{fine-rooms, rooms-refused, rows-fine, rows-refused}
@@ -20,22 +22,23 @@ enum-told-2 c = search needs
 rooms : (c : tie.After-enum-told) →
     let a = c .before .before .before .before .before .args in
     Rooms (a .n) (a .w) (now (a .labels)) (now (a .counts))
-rooms c = fine-rooms _ _ _ _ (sym (c .before .before .check-rooms .ensures) ∙ c .enum-told .given .1)
+rooms c = fine-rooms _ _ _ _ (sym (c .before .before .check-rooms .ensures .0) ∙ c .enum-told .given .1)
 
 returns : tie.Need-returns
 returns c =
     let a = c .before .before .before .before .before .args in
     let e = c .enum-told2 .given .1 in
-    e
+    read-off verdictTold
+    (e
     ∙ sym
     (rooms-refused (a .bound) (a .n) (a .w) (now (a .labels)) (now (a .counts))
-    (sym (c .before .before .check-rooms .ensures) ∙ e))
+    (sym (c .before .before .check-rooms .ensures .0) ∙ e)))
 
 first-unsound-requires : tie.Need-first-unsound-requires
 first-unsound-requires c κs = rooms c
 
 returns-2 : tie.Need-returns-2
-returns-2 c = sym (rows-fine _ (rooms (c .before .before)) (c .before .first-unsound .ensures) (c .if1 .taken))
+returns-2 c = read-off verdictTold (sym (rows-fine _ (rooms (c .before .before)) (c .before .first-unsound .ensures) (c .if1 .taken)))
 
 refused-requires : tie.Need-refused-requires
 refused-requires c κs = search needs
@@ -43,7 +46,7 @@ refused-requires c κs = search needs
 returns-3 : tie.Need-returns-3
 returns-3 c =
     let d = c .before .before in
-    c .refused .ensures ∙ sym (rows-refused _ (rooms (d .before)) (d .first-unsound .ensures) (c .before .if1 .left))
+    read-off verdictTold (c .refused .ensures ∙ sym (rows-refused _ (rooms (d .before)) (d .first-unsound .ensures) (c .before .if1 .left)))
 
 pub check-rows-spec : {M : Type 1} → statement M
 check-rows-spec =

@@ -6,7 +6,7 @@ use native.Mathlib.Omega.{arith}
 use borrow.Author.Needs.{needs}
 use denote.Ref.{now, ptr}
 use Rattle.refusal.specs.Tests.{ifFine}
-use Rattle.rows.specs.Entry.{entryBytes}
+use Rattle.entry.specs.Entry.{entryBytes}
 use Rattle.rows.specs.Rooms.{RowLies, rowAt}
 use Rattle.rows.proofs.PairLaws.{checked-row, row-by}
 use Rattle.rows.proofs.lookup.row.Statement.{statement}
@@ -16,7 +16,7 @@ use Rattle.rows.proofs.lookup.row.Tie as tie
 row : (c : tie.After-enum-told) →
     let a = c .before .before .before .before .before .args in
     RowLies (a .w) (now (a .labels)) (now (a .counts)) (a .v)
-row c = checked-row _ _ _ _ _ (sym (c .before .before .check-row .ensures) ∙ c .enum-told .given .1) .0 .row
+row c = checked-row _ _ _ _ _ (sym (c .before .before .check-row .ensures .0) ∙ c .enum-told .given .1) .0 .row
 
 check-row-requires : tie.Need-check-row-requires
 check-row-requires c κs = search needs
@@ -41,7 +41,7 @@ unfolding ifFine
 returns c =
     let a = c .before .before .before .before .before .before .args in
     let p = ptr (a .labels) in
-    let (part, start) = row-by _ _ _ _ _ (sym (c .before .before .before .check-row .ensures) ∙ c .before .enum-told2 .given .1) in
+    let (part, start) = row-by _ _ _ _ _ (sym (c .before .before .before .check-row .ensures .0) ∙ c .before .enum-told2 .given .1) in
     (sym part, sym (ap (λ (s : ℕ). (p .0, s * entryBytes + p .1)) start))
 
 mul-count : tie.Need-mul-count
@@ -62,7 +62,7 @@ returns-2 c =
     let d = c .before .before in
     let a = d .before .before .before .before .before .args in
     let p = ptr (a .labels) in
-    let (part, start) = row-by _ _ _ _ _ (sym (d .before .before .check-row .ensures) ∙ d .enum-told .given .1) in
+    let (part, start) = row-by _ _ _ _ _ (sym (d .before .before .check-row .ensures .0) ∙ d .enum-told .given .1) in
     (c .cut .ensures .0 ∙ sym part, c .cut .ensures .1 ∙ sym (ap (λ (s : ℕ). (p .0, s * entryBytes + p .1)) start))
 
 pub row-spec : {M : Type 1} → statement M

@@ -10,7 +10,7 @@ use lib.ListN.{length, getD}
 use denote.Ref.{now}
 use Rattle.rows.specs.Meetings.{atRank, lesserBy, pastBy}
 use Rattle.rows.specs.declared.merge.Meeting.{Meeting}
-use Rattle.rows.proofs.Laws.{joins-small}
+use Rattle.entry.proofs.Laws.{joins-small}
 use Rattle.rows.proofs.MeetingLaws.{Merged, past-most, past-some, merged-start, merged-on, merged-end}
 use Rattle.rows.proofs.merge.merge.Statement.{statement}
 use Rattle.rows.proofs.merge.merge.Tie as tie

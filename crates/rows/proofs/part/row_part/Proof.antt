@@ -5,7 +5,7 @@ use borrow.Author.Needs.{needs}
 use borrow.Author.Tests.{not-true, not-false}
 use denote.Ref.{ptr}
 use Rattle.basics.proofs.Laws.{cond-true, cond-false}
-use Rattle.rows.specs.Entry.{entryBytes}
+use Rattle.entry.specs.Entry.{entryBytes}
 use Rattle.rows.specs.Rooms.{partOf, partStart}
 use Rattle.rows.proofs.Laws.{room-held}
 use Rattle.rows.proofs.part.row_part.Statement.{statement}

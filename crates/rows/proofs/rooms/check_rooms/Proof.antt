@@ -3,6 +3,8 @@ use mathlib.Core.Path.{sym, _∙_}
 use native.Mathlib.Nat.{mul-le-mul}
 use native.Mathlib.Omega.{arith}
 use borrow.Author.Needs.{needs}
+use Rattle.basics.proofs.Laws.{read-off}
+use Rattle.refusal.specs.Told.{verdictTold}
 use borrow.Author.Tests.{not-true, not-false}
 use denote.Ref.{now}
 use Rattle.refusal.specs.Sizes.{Sizes}
@@ -21,8 +23,9 @@ returns : tie.Need-returns
 returns c =
     let d = c .before .before in
     let a = d .before .before .before .args in
-    c .refused .ensures
-    ∙ sym (size-refused (a .n) (a .w) (now (a .labels)) (now (a .counts)) (sym (d .sizes-fit .ensures) ∙ not-true _ (c .before .if1 .taken)))
+    read-off verdictTold
+    (c .refused .ensures
+    ∙ sym (size-refused (a .n) (a .w) (now (a .labels)) (now (a .counts)) (sym (d .sizes-fit .ensures) ∙ not-true _ (c .before .if1 .taken))))
 
 -- the sizes, where they fit
 sized : (c : tie.Else1) →
@@ -45,8 +48,9 @@ returns-2 : tie.Need-returns-2
 returns-2 c =
     let d = c .before .before in
     let a = d .before .before .before .before .args in
-    c .refused2 .ensures
-    ∙ sym (length-refused (now (a .labels)) (now (a .counts)) (sized d) (λ p q. c .before .if2 .taken p))
+    read-off verdictTold
+    (c .refused2 .ensures
+    ∙ sym (length-refused (now (a .labels)) (now (a .counts)) (sized d) (λ p q. c .before .if2 .taken p)))
 
 refused-requires-3 : tie.Need-refused-requires-3
 refused-requires-3 c κs = search needs
@@ -55,12 +59,14 @@ returns-3 : tie.Need-returns-3
 returns-3 c =
     let d = c .before .before .before in
     let a = d .before .before .before .before .args in
-    c .refused3 .ensures
-    ∙ sym (length-refused (now (a .labels)) (now (a .counts)) (sized d) (λ p q. c .before .if3 .taken q))
+    read-off verdictTold
+    (c .refused3 .ensures
+    ∙ sym (length-refused (now (a .labels)) (now (a .counts)) (sized d) (λ p q. c .before .if3 .taken q)))
 
 returns-4 : tie.Need-returns-4
 returns-4 c =
-    sym (rooms-fine record { sizes = sized (c .before .before); places = c .before .if2 .left; each = c .if3 .left })
+    read-off verdictTold
+    (sym (rooms-fine record { sizes = sized (c .before .before); places = c .before .if2 .left; each = c .if3 .left }))
 
 pub check-rooms-spec : {M : Type 1} → statement M
 check-rooms-spec =

@@ -14,9 +14,10 @@ use lib.ListN.{length, getD}
 use denote.Ref.{now}
 use Rattle.basics.specs.Places.{some}
 use Rattle.basics.proofs.Laws.{lt-or-ge, some-one, some-none, not-of-true, not-of-false}
-use Rattle.rows.specs.Entry.{rankOf}
+use Rattle.entry.specs.Entry.{rankOf}
 use Rattle.rows.specs.Rooms.{faultyEntry}
-use Rattle.rows.proofs.Laws.{rank-small, faultless, faultless-higher, faulty-rank, faulty-joins, faulty-rise}
+use Rattle.entry.proofs.Laws.{rank-small}
+use Rattle.rows.proofs.Laws.{faultless, faultless-higher, faulty-rank, faulty-joins, faulty-rise}
 use Rattle.rows.proofs.sound.sound_part.Statement.{statement}
 use Rattle.rows.proofs.sound.sound_part.Tie as tie
 

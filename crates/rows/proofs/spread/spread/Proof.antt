@@ -40,7 +40,7 @@ returns c =
     let a = c .before .before .before .before .before .before .args in
     read-off spreadTold (spread-refused (a .n) (a .w) (now (a .labels)) (now (a .counts))
     (rooms-refused (a .n) (a .n) (a .w) (now (a .labels)) (now (a .counts))
-    (sym (c .before .before .before .check-rooms .ensures) ∙ c .before .rooms .given .1)))
+    (sym (c .before .before .before .check-rooms .ensures .0) ∙ c .before .rooms .given .1)))
 
 enum-told : tie.Need-enum-told Inv-loop μ-loop
 enum-told c = search needs
@@ -48,7 +48,7 @@ enum-told c = search needs
 loop-holds : tie.Need-loop-holds Inv-loop μ-loop
 unfolding farthest
 loop-holds c = (
-  fine-rooms _ _ _ _ (sym (c .before .before .check-rooms .ensures) ∙ c .enum-told .given .1),
+  fine-rooms _ _ _ _ (sym (c .before .before .check-rooms .ensures .0) ∙ c .enum-told .given .1),
   omega arith,
   rw sub-zero refl,
   refl,

@@ -1,0 +1,42 @@
+// The links and the hub order: both tests, and the order by degree.
+ghost use mathlib.Core.Path.{_≡_};
+ghost use mathlib.Core.List.{[], _∷_};
+ghost use Rattle.links.specs.Links.{checkLinks};
+ghost use Rattle.links.specs.Order.{checkOrder, degreeOf};
+ghost use Rattle.capi.specs.Outs.{outs, testOuts, orderOuts};
+use crate::tell::told;
+
+// Check links.
+#[no_mangle]
+pub extern "C" fn seam_check_links(n: usize, starts: &[u32], places: &[u32], place: &mut u64) -> u32
+    ensures { λ r. ⌜
+        outs r (now (place .exit)) [] [] ≡ testOuts (checkLinks n (now (starts .entry)) (now (places .entry)))
+        ⌝ }
+{
+    told(links::check_links(n, starts, places), place)
+}
+
+// Check order.
+#[no_mangle]
+pub extern "C" fn seam_check_order(n: usize, order: &[u32], place: &mut u64) -> u32
+    ensures { λ r. ⌜ outs r (now (place .exit)) [] [] ≡ testOuts (checkOrder n (now (order .entry))) ⌝ }
+{
+    told(links::check_order(n, order), place)
+}
+
+// Order by degree.
+#[no_mangle]
+pub extern "C" fn seam_order_by_degree(
+    n: usize,
+    starts: &[u32],
+    places: &[u32],
+    order: &mut [u32],
+    place: &mut u64,
+) -> u32
+    ensures { λ r. ⌜
+        outs r (now (place .exit)) [] (now (order .exit) ∷ [])
+        ≡ orderOuts (degreeOf n (now (starts .entry)) (now (places .entry)) (now (order .entry)))
+        ⌝ }
+{
+    told(links::order_by_degree(n, starts, places, order), place)
+}

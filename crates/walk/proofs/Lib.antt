@@ -1,0 +1,14 @@
+pub mod BfsQueue
+pub mod BfsGrown
+pub mod BfsStep
+pub mod BfsDropped
+pub mod BfsKept
+pub mod BfsStart
+pub mod BfsEnd
+pub mod BfsWalk
+pub mod DropNotes
+pub mod DropWithin
+pub mod DropRow
+pub mod RoomClear
+pub mod RoomMarks
+pub mod RoomWalk
