@@ -15,7 +15,7 @@ use Rattle.refusal.specs.declared.Refusal.{Refusal}
 use Rattle.refusal.specs.declared.Verdict.{Verdict}
 use Rattle.refusal.proofs.Laws.{test-fine, test-refused, test-held, then-fine, after-fine, after-refused}
 use Rattle.links.proofs.Order.{rank-again, rank-sound, sound-inside}
-use Rattle.file.specs.Bits.{fieldAt, byteLen, padLen}
+use Rattle.fields.specs.Bits.{fieldAt, byteLen, padLen}
 use Rattle.file.specs.Reader.{shortTest, fieldTest, frameAt, orderFieldTest, orderFrom, entryTest, entriesFrom, rowTest, rowBit, rowsFrom, endTest, bodyTest}
 use Rattle.file.proofs.Steps.{field-fine, field-refused, field-more, field-there}
 

@@ -20,11 +20,13 @@ use Rattle.refusal.proofs.SizeLaws.{sizes-fit, sizes-held}
 use Rattle.rows.specs.Rooms.{RowLies, Rooms, rowAt, soundRow, checkRows}
 use Rattle.rows.proofs.Laws.{Sound, row-sound, sound-row, sound-higher}
 use Rattle.rows.proofs.RoomLaws.{row-lies, rows-alone, all-sound, sound-all, length-row}
-use Rattle.file.specs.Bits.{bitLen, byteLen, Legal}
-use Rattle.file.specs.Layout.{headerFields, orderFields, rowFields, rowsFields, fileFields, fileOf, fileSize, lengthsFit}
+use Rattle.fields.specs.Bits.{bitLen, byteLen, Legal}
+use Rattle.fields.specs.Layout.{headerFields, orderFields, rowFields, rowsFields, fileFields, fileOf, fileSize}
+use Rattle.file.specs.Index.{lengthsFit}
 use Rattle.file.specs.Writer.{indexSizes, writeTests, Fit}
-use Rattle.file.proofs.Packed.{legal-append, packed-length}
-use Rattle.file.proofs.LayoutLaws.{fields-legal, rows-bits, file-takes, lengths-fit, fit-lengths}
+use Rattle.fields.proofs.Packed.{legal-append, packed-length}
+use Rattle.fields.proofs.LayoutLaws.{fields-legal, rows-bits, file-takes}
+use Rattle.file.proofs.IndexLaws.{lengths-fit, fit-lengths}
 
 -- what 1 and 2 let through
 pub sizes-in : (n k w : ℕ) → indexSizes n k w ≡ true → Sizes n w × (k ≤ n)

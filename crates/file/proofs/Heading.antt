@@ -12,9 +12,9 @@ use Rattle.refusal.specs.declared.Refusal.{Refusal}
 use Rattle.refusal.specs.declared.Verdict.{Verdict}
 use Rattle.refusal.proofs.Laws.{test-fine, test-refused, test-held, then-fine, after-fine, after-refused}
 use Rattle.file.specs.declared.Opened.{Opened}
-use Rattle.file.specs.Bits.{fieldAt, byteLen}
+use Rattle.fields.specs.Bits.{fieldAt, byteLen}
 use Rattle.file.specs.Reader.{shortTest, fieldTest, framesOf, stopOf, headerTest, opened, told, Told}
-use Rattle.file.proofs.Bits.{field-lt}
+use Rattle.fields.proofs.Bits.{field-lt}
 use Rattle.file.proofs.Steps.{short-fine, short-refused, field-fine, field-refused, field-short, field-there, field-legal}
 
 -- ---- an answer

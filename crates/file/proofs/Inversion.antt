@@ -9,9 +9,9 @@ use borrow.Author.Tests.{leb-true, ltb-true}
 use Rattle.basics.proofs.Laws.{by-cases, both-true}
 use Rattle.refusal.specs.declared.Verdict.{Verdict}
 use Rattle.refusal.proofs.Laws.{then-fine, tests-each}
-use Rattle.file.specs.Bits.{fieldAt, byteLen}
+use Rattle.fields.specs.Bits.{fieldAt, byteLen}
 use Rattle.file.specs.Reader.{orderFieldTest, orderFrom, entryTest, entriesFrom, rowTest, behind, rowsFrom, rowBit}
-use Rattle.file.proofs.Bits.{field-lt}
+use Rattle.fields.proofs.Bits.{field-lt}
 use Rattle.file.proofs.Steps.{field-there, field-legal}
 use Rattle.file.proofs.Fields.{row-fine, row-there}
 

@@ -1,14 +1,9 @@
-pub mod Bits
-pub mod Byte
 pub mod Fields
 pub mod Fit
-pub mod Gather
 pub mod Heading
+pub mod IndexLaws
 pub mod Inversion
-pub mod LayoutLaws
 pub mod Numbered
-pub mod Packed
-pub mod Pen
 pub mod ReadBack
 pub mod ReadFit
 pub mod ReadSpread

@@ -9,7 +9,7 @@ use lib.ListN.{length}
 use Rattle.refusal.specs.declared.Verdict.{Verdict}
 use Rattle.refusal.proofs.Laws.{Numbered, test-numbered, then-numbered, tests-numbered}
 use Rattle.file.specs.declared.Opened.{Opened}
-use Rattle.file.specs.Bits.{fieldAt}
+use Rattle.fields.specs.Bits.{fieldAt}
 use Rattle.file.specs.Reader.{shortTest, fieldTest, framesOf, stopOf, headerTest, orderFieldTest, entryTest, rowTest, endTest, bodyTest, readTest, opened, headerOf, filledIn, readOf, told, Told}
 use Rattle.file.proofs.Heading.{told-apart, frames-some}
 

@@ -7,12 +7,13 @@ use native.Mathlib.Nat.{zero-add}
 use lib.ListN.{length, getD}
 use Rattle.entry.specs.Entry.{rankOf, joinsOf}
 use Rattle.rows.specs.Rooms.{rowAt}
-use Rattle.file.specs.Bits.{Field, fieldAt, bitLen, byteLen, padLen, Reads}
-use Rattle.file.specs.Layout.{headerFields, frameFields, orderFields, pairFields, entryFields, rowFields, rowsFields, fileFields, fileOf}
+use Rattle.fields.specs.Bits.{Field, fieldAt, bitLen, byteLen, padLen, Reads}
+use Rattle.fields.specs.Layout.{headerFields, frameFields, orderFields, pairFields, entryFields, rowFields, rowsFields, fileFields, fileOf}
 use Rattle.file.specs.Reader.{framesOf, stopOf, frameAt, behind, rowBit, countAt}
 use Rattle.file.specs.Writer.{Fit}
-use Rattle.file.proofs.Packed.{reads-front, reads-back, reads-packed, packed-length, packed-fill}
-use Rattle.file.proofs.LayoutLaws.{fields-take, fields-found, order-bits, row-behind, file-ends}
+use Rattle.fields.proofs.Packed.{reads-front, reads-back, reads-packed, packed-length, packed-fill}
+use Rattle.fields.proofs.LayoutLaws.{fields-take, fields-found, order-bits, file-ends}
+use Rattle.file.proofs.IndexLaws.{row-behind}
 use Rattle.file.proofs.Fit.{fit-legal, fit-length}
 
 -- a byte string that holds the file of an index

@@ -20,10 +20,10 @@ use Rattle.rows.specs.Rooms.{Rooms, rowAt, rowsTest}
 use Rattle.entry.proofs.Laws.{rank-entry, joins-entry}
 use Rattle.rows.proofs.Laws.{Sound, sound-row}
 use Rattle.rows.proofs.RoomLaws.{length-row, sound-all}
-use Rattle.file.specs.Bits.{fieldAt}
+use Rattle.fields.specs.Bits.{fieldAt}
 use Rattle.file.specs.Reader.{framesOf, stopOf, frameAt, orderFieldTest, entryTest, lowAt, rowBit, countAt, entryAt, labelAt, orderRead, labelsRead, countsRead}
 use Rattle.file.specs.Writer.{Fit}
-use Rattle.file.proofs.Bits.{field-lt}
+use Rattle.fields.proofs.Bits.{field-lt}
 use Rattle.file.proofs.Steps.{field-legal}
 use Rattle.file.proofs.Fields.{row-fine}
 use Rattle.file.proofs.Heading.{frames-some, frames-most}

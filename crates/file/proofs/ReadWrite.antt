@@ -16,12 +16,14 @@ use Rattle.refusal.specs.declared.Verdict.{Verdict}
 use Rattle.refusal.proofs.Laws.{test-held, then-fine, vcase}
 use Rattle.file.specs.declared.Opened.{Opened}
 use Rattle.file.specs.declared.Written.{Written}
-use Rattle.file.specs.Bits.{fieldAt, Field, bitLen, byteLen, padLen, Bytes, Reads}
-use Rattle.file.specs.Layout.{headerFields, orderFields, pairFields, entryFields, rowFields, rowsFields, fileFields, fileOf, stored, Same}
+use Rattle.fields.specs.Bits.{fieldAt, Field, bitLen, byteLen, padLen, Bytes, Reads}
+use Rattle.fields.specs.Layout.{headerFields, orderFields, pairFields, entryFields, rowFields, rowsFields, fileFields, fileOf}
+use Rattle.file.specs.Index.{stored, Same}
 use Rattle.file.specs.Reader.{framesOf, stopOf, frameAt, endTest, readTest, rowBit, countAt, orderRead, labelsRead, countsRead, Outcome, outcome, indexRead, filledIn, readOf, told}
 use Rattle.file.specs.Writer.{Fit, wrote, writeOf}
-use Rattle.file.proofs.Packed.{packed-reads, reads-append}
-use Rattle.file.proofs.LayoutLaws.{fields-reads, header-bits, order-bits, row-behind, file-ends}
+use Rattle.fields.proofs.Packed.{packed-reads, reads-append}
+use Rattle.fields.proofs.LayoutLaws.{fields-reads, header-bits, order-bits, file-ends}
+use Rattle.file.proofs.IndexLaws.{row-behind}
 use Rattle.file.proofs.Heading.{index-is}
 use Rattle.file.proofs.Numbered.{answer-is}
 use Rattle.file.proofs.Inversion.{bits-there}

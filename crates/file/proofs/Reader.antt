@@ -14,12 +14,12 @@ use Rattle.refusal.specs.declared.Verdict.{Verdict}
 use Rattle.refusal.proofs.Laws.{test-fine, test-refused, test-held, then-fine, after-fine, after-refused, tests-each}
 use Rattle.refusal.proofs.SizeLaws.{width-held}
 use Rattle.file.specs.declared.Opened.{Opened}
-use Rattle.file.specs.Layout.{lengthsFit}
+use Rattle.file.specs.Index.{lengthsFit}
 use Rattle.file.specs.Reader.{framesOf, stopOf, headerTest, frameAt, orderFrom, rowsFrom, endTest, bodyTest, readTest, rowBit, countAt, labelAt, orderRead, labelsRead, countsRead, outcome, filledIn, readOf}
 use Rattle.file.specs.Stores.{filled, Ordered, Rowed}
 use Rattle.file.proofs.Fields.{row-fits}
 use Rattle.file.proofs.Heading.{Headed, headed, frames-most}
-use Rattle.file.proofs.LayoutLaws.{fit-lengths}
+use Rattle.file.proofs.IndexLaws.{fit-lengths}
 use Rattle.file.proofs.Inversion.{bits-there}
 use Rattle.file.proofs.Stores.{filled-table}
 

@@ -13,10 +13,10 @@ use Rattle.refusal.specs.Tests.{refusal}
 use Rattle.refusal.specs.declared.Refusal.{Refusal}
 use Rattle.refusal.specs.declared.Verdict.{Verdict}
 use Rattle.refusal.proofs.Laws.{test-fine, test-refused, test-held, then-fine, after-fine, after-refused, fine-not-refused, vcase}
-use Rattle.file.specs.Bits.{fieldAt, byteLen}
+use Rattle.fields.specs.Bits.{fieldAt, byteLen}
 use Rattle.file.specs.Reader.{shortTest, fieldTest}
 use Rattle.file.specs.Steps.{step, verdictOf}
-use Rattle.file.specs.declared.get.Step.{Step}
+use Rattle.file.specs.declared.step.Step.{Step}
 
 -- ---- one field
 

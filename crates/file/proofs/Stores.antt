@@ -14,7 +14,7 @@ use Rattle.basics.specs.Places.{table}
 use Rattle.basics.proofs.Laws.{by-cases, cond-true, cond-false, less-one, is-table}
 use Rattle.rows.specs.Rooms.{part}
 use Rattle.rows.proofs.Laws.{row-inside, part-table}
-use Rattle.file.specs.Bits.{fieldAt, byteLen}
+use Rattle.fields.specs.Bits.{fieldAt, byteLen}
 use Rattle.file.specs.Reader.{entryAt, cellOf, countAt, labelAt, labelsRead, behind, rowBit}
 use Rattle.file.specs.Stores.{filled, entryFrom, nought, cellAt, Row, Rowed}
 use Rattle.file.proofs.Inversion.{bit-near}

@@ -18,8 +18,9 @@ use Rattle.rows.specs.Rooms.{rowAt}
 use Rattle.entry.proofs.Laws.{entry-of-parts}
 use Rattle.rows.proofs.Laws.{Sound, length-part}
 use Rattle.refusal.proofs.SizeLaws.{width-fits}
-use Rattle.file.specs.Bits.{fieldAt, bitLen, byteLen}
-use Rattle.file.specs.Layout.{fileFields, fileOf, stored, Same}
+use Rattle.fields.specs.Bits.{fieldAt, bitLen, byteLen}
+use Rattle.fields.specs.Layout.{fileFields, fileOf}
+use Rattle.file.specs.Index.{stored, Same}
 use Rattle.file.specs.Reader.{shortTest, headerTest, frameAt, orderFieldTest, entryTest, lowAt, rowTest, bodyTest, readTest, rowBit, countAt, entryAt, labelAt, orderRead, labelsRead, countsRead, Outcome, outcome, filledIn, readOf}
 use Rattle.file.specs.Writer.{wrote, writeOf}
 use Rattle.file.specs.declared.Opened.{Opened}
@@ -30,7 +31,7 @@ use Rattle.file.proofs.ReadBack.{Holds, file-holds, version-found, fram
 use Rattle.file.proofs.Heading.{header-fine as fine-header}
 use Rattle.file.proofs.Steps.{short-fine}
 use Rattle.file.proofs.Stores.{entry-read}
-use Rattle.file.proofs.LayoutLaws.{lengths-fit}
+use Rattle.file.proofs.IndexLaws.{lengths-fit}
 use Rattle.file.proofs.Reader.{body-left}
 use Rattle.file.proofs.Writing.{Done, write-done, done-file}
 

@@ -16,13 +16,13 @@ use Rattle.refusal.specs.declared.Verdict.the-variants.{Fine, Refused}
 use Rattle.refusal.proofs.Laws.{Numbered, test-fine, test-held, then-fine, after-fine, after-refused, test-numbered, then-numbered, vcase, told}
 use Rattle.links.specs.Order.{orderTest}
 use Rattle.rows.specs.Rooms.{rowsTest}
-use Rattle.file.specs.Bits.{byteLen}
-use Rattle.file.specs.Layout.{fileFields, fileOf}
+use Rattle.fields.specs.Bits.{byteLen}
+use Rattle.fields.specs.Layout.{fileFields, fileOf}
 use Rattle.file.specs.Writer.{writeTests, outFits, outTest, wrote, Wrote, filledFrom, writeOf, Fit}
 use Rattle.file.specs.declared.Written.{Written}
 use Rattle.file.proofs.Fit.{fit}
-use Rattle.file.proofs.LayoutLaws.{file-takes}
-use Rattle.file.proofs.Packed.{packed-length}
+use Rattle.fields.proofs.LayoutLaws.{file-takes}
+use Rattle.fields.proofs.Packed.{packed-length}
 
 -- 14: where the file fits, and where it does not
 pub out-held : (room start size : ℕ) → outFits room start size ≡ true → (start ≤ room) × (size ≤ room - start)

@@ -1,6 +1,4 @@
-pub mod Bits
-pub mod Layout
-pub mod Pen
+pub mod Index
 pub mod Writer
 pub mod Reader
 pub mod Steps

@@ -13,8 +13,9 @@ use Rattle.refusal.specs.declared.Verdict.{Verdict}
 use Rattle.links.specs.Order.{faultyRank}
 use Rattle.entry.specs.Entry.{entryOf}
 use Rattle.file.specs.declared.Opened.{Opened}
-use Rattle.file.specs.Bits.{fieldAt, byteLen, padLen}
-use Rattle.file.specs.Layout.{versionBits, framesBits, stopBits, spareBits, frameBits, countBits, rankBits, joinsBits, entryBits, framesBit, stopBit, spareBit, orderBit, joinsBit, entryBit, lengthsFit}
+use Rattle.fields.specs.Bits.{fieldAt, byteLen, padLen}
+use Rattle.fields.specs.Layout.{versionBits, framesBits, stopBits, spareBits, frameBits, countBits, rankBits, joinsBits, entryBits, framesBit, stopBit, spareBit, orderBit, joinsBit, entryBit}
+use Rattle.file.specs.Index.{lengthsFit}
 
 -- ---- one field
 

@@ -3,8 +3,8 @@ use Prim.Native.Nat.{ℕ, zero, suc, _+_, _-_, _*_, _^_, _≤_, _<_}
 use mathlib.Core.Path.{_≡_}
 use mathlib.Core.List.{List}
 use lib.ListN.{length, set}
-use Rattle.file.specs.Bits.{byteLen}
-use Rattle.file.specs.Layout.{entryBits, orderBit, entryBit}
+use Rattle.fields.specs.Bits.{byteLen}
+use Rattle.fields.specs.Layout.{entryBits, orderBit, entryBit}
 use Rattle.file.specs.Reader.{entryAt, cellOf, countAt, rowBit}
 
 -- a room in which each of the `left` places from `a` on holds `f` of that place

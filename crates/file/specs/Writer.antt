@@ -13,7 +13,8 @@ use Rattle.refusal.specs.declared.Verdict.{Verdict}
 use Rattle.links.specs.Order.{orderTest}
 use Rattle.rows.specs.Rooms.{Rooms, rowsTest}
 use Rattle.file.specs.declared.Written.{Written}
-use Rattle.file.specs.Layout.{lengthsFit, fileOf}
+use Rattle.fields.specs.Layout.{fileOf}
+use Rattle.file.specs.Index.{lengthsFit}
 
 -- n from 1 to 4,096, W from 1 to 256, k from 0 to n
 unfoldable pub indexSizes : ℕ → ℕ → ℕ → Bool

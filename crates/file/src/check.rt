@@ -1,16 +1,17 @@
 // The tests on the fields behind the header, in bit order. Nothing is stored here but which frames the order has had.
 use crate::Opened;
-use crate::get;
-use crate::get::Step;
 use crate::rooms;
-use crate::widths;
+use crate::step;
+use crate::step::Step;
+use fields::get;
+use fields::widths;
 use refusal;
 use refusal::Verdict;
 ghost use Prim.Native.Nat.{_+_, _*_, _^_, _≤_, _<_};
 ghost use mathlib.Core.Path.{_≡_};
 ghost use lib.ListN.{length};
-ghost use Rattle.file.specs.Bits.{fieldAt, byteLen};
-ghost use Rattle.file.specs.Layout.{rankBits};
+ghost use Rattle.fields.specs.Bits.{fieldAt, byteLen};
+ghost use Rattle.fields.specs.Layout.{rankBits};
 ghost use Rattle.file.specs.Reader.{frameAt, orderFieldTest, orderFrom, entryTest, entriesFrom, rowTest, behind, rowBit, rowsFrom, endTest, bodyTest, framesOf, stopOf, readTest, opened};
 ghost use Rattle.file.specs.Steps.{step};
 ghost use Rattle.links.specs.Inner.{Seen};
@@ -22,9 +23,9 @@ pub fn order_field(bytes: &[u8], n: usize, r: usize, seen: &mut [bool]) -> Verdi
     ensures noted { λ x. ⌜ (orderFieldTest (now (bytes .entry)) n r ≡ Verdict.Fine → Seen (frameAt (now (bytes .entry))) (now (seen .exit)) (r + 1)) ⌝ }
 {
     let p = widths::HEADER_BITS + widths::FRAME_BITS * r;
-    let got = get::field(bytes, p, widths::FRAME_BITS, n);
+    let got = step::field(bytes, p, widths::FRAME_BITS, n);
     let Step::On(frame) = got else {
-        return get::verdict(got);
+        return step::verdict(got);
     };
     if seen[frame] {
         return refusal::refused(refusal::FIELD, p);
@@ -55,15 +56,15 @@ pub fn entry_fields(bytes: &[u8], n: usize, k: usize, p: usize, low: usize) -> S
     requires { ⌜ p < 2 ^ 30 ⌝ }
     ensures { λ x. ⌜ x ≡ step (entryTest (now (bytes .entry)) n k p low) (fieldAt (now (bytes .entry)) p rankBits) ⌝ }
 {
-    let got = get::field(bytes, p, widths::RANK_BITS, k);
+    let got = step::field(bytes, p, widths::RANK_BITS, k);
     let Step::On(rank) = got else {
         return got;
     };
     if rank < low {
-        return get::stop(refusal::FIELD, p);
+        return step::stop(refusal::FIELD, p);
     }
     let bit = p + widths::RANK_BITS;
-    let more = get::field(bytes, bit, widths::JOINS_BITS, n);
+    let more = step::field(bytes, bit, widths::JOINS_BITS, n);
     let Step::On(_) = more else {
         return more;
     };
@@ -102,7 +103,7 @@ pub fn entries(bytes: &[u8], n: usize, k: usize, p: usize, count: usize) -> Verd
     while 0 < left {
         let got = entry(bytes, n, k, bit, low);
         let Step::On(rank) = got else {
-            return get::verdict(got);
+            return step::verdict(got);
         };
         low = rank + 1;
         bit += widths::ENTRY_BITS;
@@ -116,12 +117,12 @@ pub fn row(bytes: &[u8], n: usize, k: usize, w: usize, v: usize, p: usize) -> St
     requires { ⌜ p < 2 ^ 28 ⌝ }
     ensures { λ x. ⌜ x ≡ step (rowTest (now (bytes .entry)) n k w v p) (behind (now (bytes .entry)) p) ⌝ }
 {
-    let got = get::field(bytes, p, widths::COUNT_BITS, widths::LEGAL_COUNTS);
+    let got = step::field(bytes, p, widths::COUNT_BITS, widths::LEGAL_COUNTS);
     let Step::On(count) = got else {
         return got;
     };
     if w < count {
-        return get::stop(refusal::ROOM, v);
+        return step::stop(refusal::ROOM, v);
     }
     let bit = p + widths::COUNT_BITS;
     let tested = entries(bytes, n, k, bit, count);
@@ -176,7 +177,7 @@ pub fn body(bytes: &[u8], n: usize, k: usize, w: usize) -> Verdict
     };
     let found = rows(bytes, n, k, w);
     let Step::On(bit) = found else {
-        return get::verdict(found);
+        return step::verdict(found);
     };
     end(bytes, bit)
 }
@@ -187,7 +188,7 @@ pub fn file(bytes: &[u8], w: usize, order: usize, labels: usize, counts: usize) 
 {
     let width = refusal::sizes::width_fits(w);
     if !width {
-        return get::closed(refusal::SIZE, 0);
+        return step::closed(refusal::SIZE, 0);
     }
     let headed = crate::header(bytes);
     let Opened::Index(n, k) = headed else {
@@ -195,7 +196,7 @@ pub fn file(bytes: &[u8], w: usize, order: usize, labels: usize, counts: usize) 
     };
     let lengths = rooms::lengths_fit(n, w, order, labels, counts);
     if !lengths {
-        return get::closed(refusal::LENGTH, 0);
+        return step::closed(refusal::LENGTH, 0);
     }
     let tested = body(bytes, n, k, w);
     if let Verdict::Refused(f) = tested {

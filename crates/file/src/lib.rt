@@ -1,19 +1,19 @@
 // The index file: bit-packed fields, most significant first.
-mod put;
 mod rooms;
-mod widths;
 mod writer;
 
 ghost use mathlib.Core.Path.{_≡_};
 ghost use Rattle.file.specs.Writer.{wrote, writeOf};
 use entry::Entry;
+use fields::get;
+use fields::widths;
 use refusal;
 use refusal::Refusal;
 use refusal::Verdict;
 ghost use Rattle.file.specs.Reader.{headerOf, outcome, readOf, told};
 
 mod check;
-mod get;
+mod step;
 mod store;
 
 // What writing gives: the bytes filled, or a refusal.
@@ -67,26 +67,26 @@ pub fn header(bytes: &[u8]) -> Opened
     ensures said { λ r. ⌜ told r ≡ told (headerOf (now (bytes .entry))) ⌝ }
 {
     if bytes.len() < widths::VERSION_BYTES {
-        return get::closed(refusal::SHORT, 0);
+        return step::closed(refusal::SHORT, 0);
     }
     let version = get::get(bytes, 0, widths::VERSION_BITS);
     if version != 1 {
-        return get::closed(refusal::VERSION, 0);
+        return step::closed(refusal::VERSION, 0);
     }
     if bytes.len() < widths::FRAMES_BYTES {
-        return get::closed(refusal::SHORT, widths::FRAMES_BIT);
+        return step::closed(refusal::SHORT, widths::FRAMES_BIT);
     }
     if bytes.len() < widths::HEADER_BYTES {
-        return get::closed(refusal::SHORT, widths::STOP_BIT);
+        return step::closed(refusal::SHORT, widths::STOP_BIT);
     }
     let n = get::get(bytes, widths::FRAMES_BIT, widths::FRAMES_BITS) + 1;
     let k = get::get(bytes, widths::STOP_BIT, widths::STOP_BITS);
     if n < k {
-        return get::closed(refusal::FIELD, widths::STOP_BIT);
+        return step::closed(refusal::FIELD, widths::STOP_BIT);
     }
     let spare = get::get(bytes, widths::SPARE_BIT, widths::SPARE_BITS);
     if spare != 0 {
-        return get::closed(refusal::FIELD, widths::SPARE_BIT);
+        return step::closed(refusal::FIELD, widths::SPARE_BIT);
     }
     Opened::Index(n, k)
 }

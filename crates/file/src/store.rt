@@ -1,13 +1,13 @@
 // The rooms filled from a file whose tests are fine: fields are read again and stored, and unused places get 0.
-use crate::get;
-use crate::widths;
 use entry::Entry;
 use entry::entry_of;
+use fields::get;
+use fields::widths;
 ghost use Prim.Native.Nat.{_+_, _-_, _*_, _^_, _≤_, _<_};
 ghost use mathlib.Core.Path.{_≡_};
 ghost use lib.ListN.{length, set};
-ghost use Rattle.file.specs.Bits.{byteLen};
-ghost use Rattle.file.specs.Layout.{entryBits};
+ghost use Rattle.fields.specs.Bits.{byteLen};
+ghost use Rattle.fields.specs.Layout.{entryBits};
 ghost use Rattle.file.specs.Reader.{frameAt, entryAt, countAt, labelAt};
 ghost use Rattle.file.specs.Stores.{filled, entryFrom, cellAt, nought, Entries, Row, Ordered, Rowed};
 

@@ -19,8 +19,9 @@ use Rattle.build.specs.declared.Built.{Built}
 use Rattle.build.specs.declared.Built.the-variants.{Entries}
 use Rattle.build.proofs.build.Kinds as build-kinds
 use Rattle.build.proofs.build.Reads as build-reads
-use Rattle.file.specs.Bits.{Bytes}
-use Rattle.file.specs.Layout.{fileSize, stored, Same}
+use Rattle.fields.specs.Bits.{Bytes}
+use Rattle.fields.specs.Layout.{fileSize}
+use Rattle.file.specs.Index.{stored, Same}
 use Rattle.file.specs.Reader.{outcome as read, readOf}
 use Rattle.file.specs.Writer.{wrote, writeOf}
 use Rattle.file.specs.declared.Opened.{Opened}

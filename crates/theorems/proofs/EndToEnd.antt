@@ -15,7 +15,8 @@ use Rattle.rows.proofs.Laws.{entry-at}
 use Rattle.rows.proofs.PairDepends.{SameRow, pair-depends}
 use Rattle.build.specs.Build.{outcome, buildOf}
 use Rattle.build.specs.declared.Built.the-variants.{Entries}
-use Rattle.file.specs.Layout.{fileSize, stored, Same}
+use Rattle.fields.specs.Layout.{fileSize}
+use Rattle.file.specs.Index.{stored, Same}
 use Rattle.file.specs.Reader.{outcome as read, readOf}
 use Rattle.file.specs.Writer.{Fit, wrote, writeOf}
 use Rattle.file.specs.declared.Opened.{Opened}

@@ -30,8 +30,9 @@ use Rattle.build.specs.Build.{
   afterTests,
   buildOf,
 }
-use Rattle.file.specs.Bits.{bitLen, num, bytesOf, byteLen, padLen, packed}
-use Rattle.file.specs.Layout.{fieldsFrom, headerFields, rowFields, fileFields, fileOf, lengthsFit}
+use Rattle.fields.specs.Bits.{bitLen, num, bytesOf, byteLen, padLen, packed}
+use Rattle.fields.specs.Layout.{fieldsFrom, headerFields, rowFields, fileFields, fileOf}
+use Rattle.file.specs.Index.{lengthsFit}
 use Rattle.file.specs.Writer.{indexSizes, writeTests, outFits, outTest, wrote, filledFrom, writeOf}
 use Rattle.theorems.specs.Starred.{asked, chainTo, ring, threeTo, one, Starred}
 

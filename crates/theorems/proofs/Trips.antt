@@ -6,8 +6,9 @@ use mathlib.Core.List.{List}
 use native.Mathlib.Omega.{arith}
 use lib.ListN.{length, take, drop}
 use Rattle.basics.specs.Places.{sum}
-use Rattle.file.specs.Bits.{Bytes}
-use Rattle.file.specs.Layout.{fileOf, fileSize, stored, Same}
+use Rattle.fields.specs.Bits.{Bytes}
+use Rattle.fields.specs.Layout.{fileOf, fileSize}
+use Rattle.file.specs.Index.{stored, Same}
 use Rattle.file.specs.Reader.{outcome, readOf}
 use Rattle.file.specs.Writer.{Fit, wrote, writeOf}
 use Rattle.file.specs.declared.Opened.{Opened}

@@ -5,7 +5,8 @@ use mathlib.Core.List.{List}
 use lib.ListN.{replicate}
 use Rattle.basics.specs.Places.{sum}
 use Rattle.rows.specs.Pair.{pairOf}
-use Rattle.file.specs.Layout.{fileSize, stored, Same}
+use Rattle.fields.specs.Layout.{fileSize}
+use Rattle.file.specs.Index.{stored, Same}
 use Rattle.file.specs.declared.Opened.{Opened}
 use Rattle.file.specs.declared.Written.{Written}
 use Rattle.theorems.specs.Demands.{Demands}

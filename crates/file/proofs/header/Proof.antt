@@ -7,11 +7,11 @@ use borrow.Author.Needs.{needs}
 use Rattle.basics.proofs.Laws.{read-off}
 use Rattle.refusal.specs.declared.Refusal.{Refusal}
 use Rattle.refusal.specs.declared.Verdict.{Verdict}
-use Rattle.file.specs.Bits.{fieldAt, byteLen}
+use Rattle.fields.specs.Bits.{fieldAt, byteLen}
 use Rattle.file.specs.Reader.{framesOf, stopOf, headerTest, headerOf, told}
 use Rattle.file.specs.declared.Opened.{Opened}
 use Rattle.file.proofs.Heading.{opened-fine, opened-refused, version-short, version-other, frames-short, stop-short, stop-over, spare-set, header-fine}
-use Rattle.file.proofs.Bits.{field-lt}
+use Rattle.fields.proofs.Bits.{field-lt}
 use Rattle.file.proofs.header.Statement.{statement}
 use Rattle.file.proofs.header.Tie as tie
 

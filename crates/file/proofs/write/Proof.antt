@@ -13,7 +13,7 @@ use lib.Seq.{length-take-le}
 use Rattle.refusal.specs.Numbers.{OUT}
 use Rattle.refusal.specs.declared.Verdict.the-variants.{Fine}
 use Rattle.refusal.proofs.Laws.{test-refused}
-use Rattle.file.specs.Layout.{fileOf}
+use Rattle.fields.specs.Layout.{fileOf}
 use Rattle.file.specs.Writer.{writeTests, outFits, outTest, wrote, Fit}
 use Rattle.file.specs.declared.Written.{Written}
 use Rattle.file.proofs.Fit.{fit, file-bytes}

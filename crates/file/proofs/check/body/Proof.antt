@@ -5,7 +5,7 @@ use native.Mathlib.Omega.{arith}
 use lib.ListN.{length}
 use borrow.Author.Needs.{needs}
 use Rattle.refusal.specs.declared.Verdict.{Verdict}
-use Rattle.file.specs.Bits.{byteLen}
+use Rattle.fields.specs.Bits.{byteLen}
 use Rattle.file.specs.Reader.{orderFrom, rowsFrom, rowBit}
 use Rattle.file.proofs.Inversion.{bits-there, bit-near}
 use Rattle.file.proofs.Fields.{body-order, body-rows, body-end}

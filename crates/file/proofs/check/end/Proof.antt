@@ -2,7 +2,7 @@
 use mathlib.Core.Path.{sym, _∙_}
 use native.Mathlib.Omega.{arith}
 use borrow.Author.Needs.{needs}
-use Rattle.file.specs.Bits.{byteLen, padLen}
+use Rattle.fields.specs.Bits.{byteLen, padLen}
 use Rattle.file.proofs.Fields.{end-fill, end-long, end-fine}
 use Rattle.file.proofs.check.end.Statement.{statement}
 use Rattle.file.proofs.check.end.Tie as tie

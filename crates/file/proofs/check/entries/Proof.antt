@@ -9,10 +9,10 @@ use native.Mathlib.Nat.{sub-self, sub-zero}
 use native.Mathlib.Numerals.{add-one}
 use Rattle.refusal.proofs.Laws.{tests-stop, tests-on, tests-end}
 use Rattle.refusal.specs.declared.Verdict.{Verdict}
-use Rattle.file.specs.Bits.{fieldAt}
+use Rattle.fields.specs.Bits.{fieldAt}
 use Rattle.file.specs.Reader.{entryTest, lowAt, entriesFrom}
 use Rattle.file.proofs.Steps.{went-on, stopped, verdict-refused}
-use Rattle.file.proofs.Bits.{field-lt}
+use Rattle.fields.proofs.Bits.{field-lt}
 use Rattle.file.proofs.check.entries.Statement.{statement}
 use Rattle.file.proofs.check.entries.Tie as tie
 

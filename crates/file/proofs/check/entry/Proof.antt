@@ -1,8 +1,8 @@
 -- `entry`: a legal entry whose bytes are there goes on with its rank, every other one is tested field by field.
 use native.Mathlib.Omega.{arith}
 use borrow.Author.Needs.{needs}
-use Rattle.file.specs.Bits.{byteLen}
-use Rattle.file.proofs.Bits.{pair-parts}
+use Rattle.fields.specs.Bits.{byteLen}
+use Rattle.fields.proofs.Bits.{pair-parts}
 use Rattle.file.proofs.Fields.{entry-legal}
 use Rattle.file.proofs.Steps.{short-fine, step-fine}
 use Rattle.file.proofs.check.entry.Statement.{statement}

@@ -5,7 +5,7 @@ use native.Mathlib.Omega.{arith}
 use borrow.Author.Needs.{needs}
 use lib.Dec.{ltb}
 use Rattle.refusal.specs.declared.Verdict.{Verdict}
-use Rattle.file.specs.Bits.{fieldAt}
+use Rattle.fields.specs.Bits.{fieldAt}
 use Rattle.file.specs.Reader.{shortTest, fieldTest, entryTest}
 use Rattle.file.proofs.Fields.{entry-rank, entry-low, entry-left}
 use Rattle.file.proofs.Steps.{step-fine, step-refused, went-on, below, stopped}

@@ -5,7 +5,7 @@ use native.Mathlib.Omega.{arith}
 use borrow.Author.Needs.{needs}
 use Rattle.file.specs.Reader.{shortTest, entriesFrom, rowTest, behind}
 use Rattle.refusal.specs.declared.Verdict.{Verdict}
-use Rattle.file.specs.Bits.{fieldAt}
+use Rattle.fields.specs.Bits.{fieldAt}
 use Rattle.file.proofs.Fields.{row-count, row-room, row-entries}
 use Rattle.file.proofs.Steps.{step-fine, step-refused, below, stopped}
 use Rattle.file.proofs.check.row.Statement.{statement}

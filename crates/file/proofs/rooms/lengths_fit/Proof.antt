@@ -3,7 +3,7 @@ use Prim.Native.Nat.{_*_, _≤_}
 use native.Mathlib.Omega.{arith}
 use native.Mathlib.Nat.{mul-le-mul}
 use borrow.Author.Tests.{eq-eqb, ne-eqb}
-use Rattle.file.specs.Layout.{lengthsFit}
+use Rattle.file.specs.Index.{lengthsFit}
 use Rattle.file.proofs.rooms.lengths_fit.Statement.{statement}
 use Rattle.file.proofs.rooms.lengths_fit.Tie as tie
 

@@ -4,7 +4,7 @@ use Prim.Native.Nat.{_+_, _-_, _*_}
 use mathlib.Core.Path.{_≡_, ap, _∙_}
 use native.Mathlib.Omega.{arith}
 use native.Mathlib.Nat.{add-sub-cancel-left}
-use Rattle.file.specs.Bits.{byteLen}
+use Rattle.fields.specs.Bits.{byteLen}
 use Rattle.file.specs.Reader.{entryAt}
 use Rattle.file.specs.Stores.{filled, entryFrom}
 use Rattle.file.proofs.Stores.{FillLeft, fill-none, fill-more, fill-all}

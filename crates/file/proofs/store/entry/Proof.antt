@@ -4,9 +4,9 @@ use native.Mathlib.Omega.{arith}
 use borrow.Author.Needs.{needs}
 use lib.ListN.{set}
 use Rattle.entry.specs.Entry.{entryOf}
-use Rattle.file.specs.Bits.{byteLen}
+use Rattle.fields.specs.Bits.{byteLen}
 use Rattle.file.specs.Reader.{entryAt}
-use Rattle.file.proofs.Bits.{pair-parts}
+use Rattle.fields.proofs.Bits.{pair-parts}
 use Rattle.file.proofs.store.entry.Statement.{statement}
 use Rattle.file.proofs.store.entry.Tie as tie
 

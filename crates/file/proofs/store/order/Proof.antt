@@ -3,11 +3,11 @@ use Prim.Native.Nat.{_+_, _-_, _*_}
 use mathlib.Core.Path.{refl, ap, _∙_}
 use native.Mathlib.Omega.{arith}
 use native.Mathlib.Nat.{sub-zero}
-use Rattle.file.specs.Bits.{byteLen}
+use Rattle.fields.specs.Bits.{byteLen}
 use Rattle.file.specs.Reader.{frameAt}
 use Rattle.file.specs.Stores.{filled}
 use Rattle.file.proofs.Stores.{FillLeft, fill-none, fill-more, fill-all}
-use Rattle.file.proofs.Bits.{field-lt}
+use Rattle.fields.proofs.Bits.{field-lt}
 use Rattle.file.proofs.store.order.Statement.{statement}
 use Rattle.file.proofs.store.order.Tie as tie
 

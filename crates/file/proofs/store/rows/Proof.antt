@@ -4,10 +4,10 @@ use Prim.Native.Nat.{_-_}
 use mathlib.Core.Path.{refl}
 use native.Mathlib.Omega.{arith}
 use lib.ListN.{length}
-use Rattle.file.specs.Bits.{byteLen}
+use Rattle.fields.specs.Bits.{byteLen}
 use Rattle.file.specs.Stores.{Row}
 use Rattle.file.proofs.Stores.{RowsLeft, rows-none, next-room, next-row, next-left, rows-stored}
-use Rattle.file.proofs.Bits.{field-lt}
+use Rattle.fields.proofs.Bits.{field-lt}
 use Rattle.file.proofs.store.rows.Statement.{statement}
 use Rattle.file.proofs.store.rows.Tie as tie
 

@@ -9,15 +9,15 @@ use denote.Ref.{now}
 use lib.ListN.{length}
 use mathlib.Core.List.{append-nil}
 use lib.Seq.{take-all}
-use Rattle.file.specs.Bits.{Field, Bytes, val, bitLen, num, bytesOf, byteLen, padLen, packed}
-use Rattle.file.specs.Layout.{headerFields, orderFields, rowsFields, fileFields, fileOf}
-use Rattle.file.specs.Pen.{penBits, penNum, Left, Put, Closed}
+use Rattle.fields.specs.Bits.{Field, Bytes, val, bitLen, num, bytesOf, byteLen, padLen, packed}
+use Rattle.fields.specs.Layout.{headerFields, orderFields, rowsFields, fileFields, fileOf}
+use Rattle.fields.specs.Pen.{penBits, penNum, Left, Put, Closed}
 use Rattle.file.specs.Writer.{Fit}
-use Rattle.file.specs.declared.put.Pen.{Pen}
-use Rattle.file.proofs.Bits.{val-bytes}
-use Rattle.file.proofs.Packed.{packed-length, pad-len}
+use Rattle.fields.specs.declared.put.Pen.{Pen}
+use Rattle.fields.proofs.Bits.{val-bytes}
+use Rattle.fields.proofs.Packed.{packed-length, pad-len}
 use Rattle.file.proofs.Fit.{fit-legal, fit-lies}
-use Rattle.file.proofs.Pen.{left-start, left-ready, left-step}
+use Rattle.fields.proofs.Pen.{left-start, left-ready, left-step}
 use Rattle.file.proofs.writer.fill.Statement.{statement}
 use Rattle.file.proofs.writer.fill.Tie as tie
 

@@ -16,10 +16,10 @@ use Rattle.links.specs.Order.{orderTest, checkOrder}
 use Rattle.links.proofs.Order.{order-alone}
 use Rattle.rows.specs.Rooms.{rowsTest, checkRows}
 use Rattle.rows.proofs.RoomLaws.{rows-alone}
-use Rattle.file.specs.Layout.{lengthsFit}
+use Rattle.file.specs.Index.{lengthsFit}
 use Rattle.file.specs.Writer.{indexSizes, writeTests}
 use Rattle.file.proofs.Fit.{sizes-in, rooms-in}
-use Rattle.file.proofs.LayoutLaws.{fit-lengths}
+use Rattle.file.proofs.IndexLaws.{fit-lengths}
 use Rattle.file.proofs.writer.tests.Statement.{statement}
 use Rattle.file.proofs.writer.tests.Tie as tie
 

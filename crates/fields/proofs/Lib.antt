@@ -1,0 +1,6 @@
+pub mod Bits
+pub mod Byte
+pub mod Gather
+pub mod LayoutLaws
+pub mod Packed
+pub mod Pen
