@@ -1,18 +1,51 @@
 /* seam.h: the distance index for C.
  *
- * Frames are numbered from 0 to n - 1. A block of links is n + 1 start positions and a list of neighbour places: the
- * list of frame v lies from starts[v] up to, and not including, starts[v + 1]. The hub order is n frame numbers, each frame once;
- * the frame at place r has rank r. Row v of an index lies in the label room from place v * w on and has counts[v] used entries, each
- * rank * 65,536 + joins.
+ * Links. Frames are numbered from 0 to n - 1; a link joins two of them. A block of links is n + 1 start positions and a list of
+ * neighbour places: the list of frame v lies from starts[v] up to, and not including, starts[v + 1]. It rises strictly, and every
+ * link stands in the lists of both its frames. The joins between two frames are the fewest links of a chain from one to the other.
  *
- * Every call returns a number, SEAM_OK (0) for success or one of the refusals below, and takes any numbers whatever in any room: none
- * relies on the caller having checked. `*place` and every other out value are always written, 0 on a refusal unless it names a
- * place. On a refusal every room is as it was lent, but for SEAM_ROOM and SEAM_FAR of seam_build, which leave labels, counts and work
- * rooms all 0.
+ * Hubs. A hub is a frame to which others keep their joins. The hub order is n frame numbers, each frame once; the frame at place r
+ * has rank r, and an index of k hubs (k is 0 to n) uses those of rank below k. A rank is never a frame number: order[rank] is the hub.
+ *
+ * Rows. Row v of an index lies in the label room from place v * w on and has counts[v] used entries, each rank * 65,536 + joins: so
+ * many joins from frame v to the hub of that rank. Unused places are 0, and so is an entry of rank 0 and 0 joins; only the count tells
+ * them apart. A row is sound if its count is at most w, its ranks rise strictly and lie below a bound, and its joins are below n. The
+ * bound is k for seam_write and seam_read, n everywhere else. A sound row has the right shape; that its joins are true comes from
+ * seam_build alone, and no later call tests it.
+ *
+ * What a count says. Of the rows that seam_build made with k hubs, seam_pair gives the fewest joins of a chain from s to t, turning
+ * back allowed, through one of these hubs, and none exactly if there is no such chain. So it is never too small, at most twice the
+ * joins from either frame to its nearest used hub too many, and the true count at k = n; only there does none mean that no chain at
+ * all joins the two. s = t is read from the row like any pair: 0 at k = n, but before that it may be above 0 or none.
+ *
+ * How to choose w. It is the most entries that a row can have, 1 to 256, and the label room takes n * w * 4 bytes: at w = 256 that is
+ * 1 KiB a frame, 4 MiB for 4,096. A build that needs a longer row is SEAM_ROOM; then build again with a larger w or another order. How
+ * long rows get depends on the order. On survey decks nearly all frames have equally many links, so that seam_order_by_degree is nearly
+ * the frames' own order and rows grow long; take the middle of the deck first, then the middles of its halves, and so on. With k at
+ * most the rank that SEAM_ROOM names, the same build is not refused, but uses fewer hubs. A file can be read with any w from its
+ * largest count up, so always with 256; a smaller w is SEAM_ROOM.
+ *
+ * The file. Its layout is these fields, in this order and without gaps, most significant bit first; bits are numbered from 0:
+ *
+ *     header, 32 bits   version 4 (1), n - 1 in 12, k in 13 (at most n), spare 3 (0)
+ *     n times           order 12: the frame of rank 0, 1, ..; each frame once
+ *     for each frame    count 9 (at most 256), then so many entries: rank 12 (rising, below k), joins 12 (below n)
+ *     at the end        0 bits up to a whole byte
+ *
+ * Calls. Every call returns a number, SEAM_OK (0) for success or one of the refusals below, and takes any numbers whatever in any
+ * room: none relies on the caller having checked. It tests in the order in which its refusals are listed with it. `*place` and every
+ * other out value are always written, 0 on a refusal unless it names a place. On a refusal every room is as it was lent, but for
+ * SEAM_ROOM and SEAM_FAR of seam_build, which leave labels, counts, met and queue all 0.
  *
  * What the caller owes: each pointer is valid for the length passed with it (NULL is fine with length 0), an out value's pointer is
- * valid, rooms that are written and out values lie apart from each other and from every other room. Nothing is kept
- * after a call returns and nothing is allocated: every room belongs to the caller throughout.
+ * valid, rooms that are written and out values lie apart from each other and from every other room.
+ *
+ * What a call takes. No state is kept between calls, so they are reentrant: several threads may call at once, as long as none uses a
+ * room or out value that a call of another is writing. No heap: every room belongs to the caller throughout. Stack, as the archive of
+ * this tree is compiled: at most 34 KiB for seam_build and seam_order_by_degree, 18 for seam_check_links, 6 for seam_check_order,
+ * seam_write and seam_read; of each, 1 KiB is allowed for memset and memcpy of the C library, the only functions called outside the
+ * archive, and where these are bound late, the loader takes its own besides at their first call. The others call nothing and take less
+ * than 1 KiB.
  */
 #ifndef SEAM_H
 #define SEAM_H
@@ -32,15 +65,15 @@ enum {
     SEAM_STARTS = 3,   /* start positions: first 0, never falling, last the number of neighbour places; 0 */
     SEAM_LINKS = 4,    /* a list is not strictly rising, holds n or more, its own frame, or a frame whose list lacks it; lowest frame */
     SEAM_ORDER = 5,    /* not each frame once; lowest rank whose value is n or more or stands at a lower rank */
-    SEAM_ROOM = 6,     /* build: a row needs over w entries; lowest such rank. read: a count over w; the frame */
-    SEAM_FAR = 7,      /* a walk gives a frame over 4,095 joins; 0 */
+    SEAM_ROOM = 6,     /* build: a row needs over w entries; lowest such rank. read: a count over w, at most 256; the frame */
+    SEAM_FAR = 7,      /* build: a frame is over 4,095 joins from a hub; of at most 4,096 frames none is; 0 */
     SEAM_FRAME = 8,    /* an asked frame is n or more; 0 for the first, 1 for the second */
     SEAM_ROW = 9,      /* a row is not sound; the frame */
     SEAM_SHORT = 10,   /* the bytes end inside a field; its first bit */
     SEAM_VERSION = 11, /* the file's version is not 1; 0 */
     SEAM_FIELD = 12,   /* an illegal field; its first bit */
     SEAM_LONG = 13,    /* bytes after the layout; how many bytes the layout uses */
-    SEAM_OUT = 14      /* the output room ends before the file would; 0 */
+    SEAM_OUT = 14      /* start lies past the output room's end, or the room ends before the file would; 0 */
 };
 
 /* Limits. */
@@ -66,16 +99,16 @@ uint32_t seam_check_order(size_t n, const uint32_t *order, size_t order_len, uin
 uint32_t seam_order_by_degree(size_t n, const uint32_t *starts, size_t starts_len, const uint32_t *places, size_t places_len,
                               uint32_t *order, size_t order_len, uint64_t *place);
 
-/* Builds the rows of the first k hubs, with room for w entries a row. labels has n * w places, counts and the work rooms n; they may
- * hold anything before. *entries is the number of entries, the work rooms are 0 after. SIZE, LENGTH, STARTS, LINKS, ORDER, then ROOM
- * or FAR. */
+/* Builds the rows of the first k hubs, with room for w entries a row. labels has n * w places, counts and the two work rooms, met and
+ * queue, n each; they may hold anything before. *entries is the number of entries, the sum of all counts; met and queue are 0 after.
+ * SIZE, LENGTH, STARTS, LINKS, ORDER, then ROOM or FAR. */
 uint32_t seam_build(size_t n, size_t w, size_t k, const uint32_t *starts, size_t starts_len, const uint32_t *places,
                     size_t places_len, const uint32_t *order, size_t order_len, uint32_t *labels, size_t labels_len,
-                    uint32_t *counts, size_t counts_len, uint32_t *work_a, size_t work_a_len, uint32_t *work_b,
-                    size_t work_b_len, uint64_t *entries, uint64_t *place);
+                    uint32_t *counts, size_t counts_len, uint32_t *met, size_t met_len, uint32_t *queue,
+                    size_t queue_len, uint64_t *entries, uint64_t *place);
 
 /* The fewest joins from s to t through one of the hubs used: *found 1 and *joins, or *found 0 and *joins 0 where there is no such
- * chain. SIZE, LENGTH, FRAME, ROW for s, ROW for t. */
+ * chain. Read from the two rows alone, as the least sum of joins over ranks in both. SIZE, LENGTH, FRAME, ROW for s, ROW for t. */
 uint32_t seam_pair(size_t n, size_t w, const uint32_t *labels, size_t labels_len, const uint32_t *counts, size_t counts_len,
                    size_t s, size_t t, uint32_t *found, uint64_t *joins, uint64_t *place);
 
@@ -83,7 +116,8 @@ uint32_t seam_pair(size_t n, size_t w, const uint32_t *labels, size_t labels_len
 uint32_t seam_check_row(size_t n, size_t w, const uint32_t *labels, size_t labels_len, const uint32_t *counts,
                         size_t counts_len, size_t v, uint64_t *place);
 
-/* Where the used part of v's row lies in the label room: labels[*start] to labels[*start + *count - 1]. As seam_check_row. */
+/* Where the used part of v's row lies in the label room: labels[*start] to labels[*start + *count - 1], none where *count is 0. As
+ * seam_check_row. */
 uint32_t seam_row(size_t n, size_t w, const uint32_t *labels, size_t labels_len, const uint32_t *counts, size_t counts_len,
                   size_t v, uint64_t *start, uint64_t *count, uint64_t *place);
 
@@ -91,13 +125,14 @@ uint32_t seam_row(size_t n, size_t w, const uint32_t *labels, size_t labels_len,
 uint32_t seam_spread(size_t n, size_t w, const uint32_t *labels, size_t labels_len, const uint32_t *counts,
                      size_t counts_len, uint64_t *spread, uint64_t *place);
 
-/* Writes the index file from out[start] on; *bytes is how many bytes it filled, and the others stay. SIZE, LENGTH, ORDER, ROW (with
- * rank bound k), OUT. SEAM_FILE_BYTES says beforehand how many bytes it takes. */
+/* Writes the index file from out[start] on; *bytes is how many bytes it filled, and the others stay. Give it the k of the build: the
+ * file says the k given here. SIZE, LENGTH, ORDER, ROW for the lowest frame (with rank bound k), OUT. SEAM_FILE_BYTES says beforehand
+ * how many bytes it takes. */
 uint32_t seam_write(size_t n, size_t w, size_t k, const uint32_t *order, size_t order_len, const uint32_t *labels,
                     size_t labels_len, const uint32_t *counts, size_t counts_len, uint8_t *out, size_t out_len,
                     size_t start, uint64_t *bytes, uint64_t *place);
 
-/* The file's n and k, to cut the rooms for seam_read. SHORT, VERSION, FIELD. */
+/* The file's n and k, to cut the rooms for seam_read. SHORT, VERSION or FIELD, field by field in bit order. */
 uint32_t seam_header(const uint8_t *bytes, size_t len, uint64_t *n, uint64_t *k, uint64_t *place);
 
 /* Reads an index file into rooms of n, n * w and n. The whole file is tested before anything is stored; unused label places become

@@ -95,7 +95,7 @@ extern "C" {
     fn seam_order_by_degree(n: usize, s: Room, sl: usize, p: Room, pl: usize, o: Lent, ol: usize, place: *mut u64) -> u32;
     fn seam_build(
         n: usize, w: usize, k: usize, s: Room, sl: usize, p: Room, pl: usize, o: Room, ol: usize,
-        labels: Lent, ll: usize, counts: Lent, cl: usize, a: Lent, al: usize, b: Lent, bl: usize,
+        labels: Lent, ll: usize, counts: Lent, cl: usize, met: Lent, ml: usize, queue: Lent, ql: usize,
         entries: *mut u64, place: *mut u64,
     ) -> u32;
     fn seam_pair(
@@ -165,14 +165,14 @@ pub fn order_by_degree(n: usize, links: Links, order: &mut [u32]) -> Result<(), 
 #[allow(clippy::too_many_arguments)]
 pub fn build(
     n: usize, w: usize, k: usize, links: Links, order: &[u32], labels: &mut [u32], counts: &mut [u32],
-    work: (&mut [u32], &mut [u32]),
+    (met, queue): (&mut [u32], &mut [u32]),
 ) -> Result<usize, Refusal> {
     let (mut entries, mut place) = (UNWRITTEN, UNWRITTEN);
     let number = unsafe {
         seam_build(
             n, w, k, links.starts.as_ptr(), links.starts.len(), links.places.as_ptr(), links.places.len(),
             order.as_ptr(), order.len(), labels.as_mut_ptr(), labels.len(), counts.as_mut_ptr(), counts.len(),
-            work.0.as_mut_ptr(), work.0.len(), work.1.as_mut_ptr(), work.1.len(), &mut entries, &mut place,
+            met.as_mut_ptr(), met.len(), queue.as_mut_ptr(), queue.len(), &mut entries, &mut place,
         )
     };
     told(number, place, &[entries], entries as usize)

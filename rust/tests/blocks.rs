@@ -235,9 +235,9 @@ fn builds_questions_files() {
             .and_then(|_| model::order(n_asked, &order));
         let expected = tests.and_then(|_| model::build(n, w, k, &block.starts, &block.places, &order).map(Some));
 
-        let [labels, counts, a, b] = &mut rooms;
+        let [labels, counts, met, queue] = &mut rooms;
         let got = seam::build(
-            n_asked, w_asked, k_asked, block.links(), &order, labels.room(), counts.room(), (a.room(), b.room()),
+            n_asked, w_asked, k_asked, block.links(), &order, labels.room(), counts.room(), (met.room(), queue.room()),
         );
         match expected {
             Ok(Some(index)) => {
@@ -422,8 +422,8 @@ fn limits() {
     assert_eq!(seam::check_links(4097, over.links()), Err(Refusal::Size));
     // The longest chain in the worst order: the last frame is 4,095 joins from the first hub, and that is not too far.
     let order: Vec<u32> = (0..4096).collect();
-    let (mut labels, mut counts, mut a, mut b) = (vec![7; 4096], vec![7; 4096], vec![7; 4096], vec![7; 4096]);
-    let built = seam::build(4096, 1, 1, long.links(), &order, &mut labels, &mut counts, (&mut a, &mut b));
+    let (mut labels, mut counts, mut met, mut queue) = (vec![7; 4096], vec![7; 4096], vec![7; 4096], vec![7; 4096]);
+    let built = seam::build(4096, 1, 1, long.links(), &order, &mut labels, &mut counts, (&mut met, &mut queue));
     assert_eq!(built, Ok(4096));
     assert_eq!(labels[4095], 4095);
     let rows = Rows { n: 4096, w: 1, labels: &labels, counts: &counts };
@@ -446,9 +446,9 @@ fn places() {
 fn by_hand() {
     let build = |block: &Block, w: usize, k: usize, order: &[u32]| {
         let n = block.n;
-        let (mut labels, mut counts, mut a, mut b) = (vec![9; n * w], vec![9; n], vec![9; n], vec![9; n]);
-        let built = seam::build(n, w, k, block.links(), order, &mut labels, &mut counts, (&mut a, &mut b));
-        assert!(a.iter().chain(&b).all(|&x| x == 0));
+        let (mut labels, mut counts, mut met, mut queue) = (vec![9; n * w], vec![9; n], vec![9; n], vec![9; n]);
+        let built = seam::build(n, w, k, block.links(), order, &mut labels, &mut counts, (&mut met, &mut queue));
+        assert!(met.iter().chain(&queue).all(|&x| x == 0));
         (built, labels, counts)
     };
     let entry = |rank: u32, joins: u32| rank * 65_536 + joins;

@@ -4,28 +4,29 @@ use mathlib.Core.Path.{_≡_, refl, sym, ap, _∙_}
 use mathlib.Core.Bool.{Bool, cond}
 use mathlib.Core.List.{List}
 use native.Mathlib.Omega.{arith}
-use lib.ListN.{length, replicate, length-replicate}
+use lib.ListN.{length, getD, replicate, length-replicate}
 use Rattle.basics.specs.Places.{sum}
 use Rattle.basics.proofs.Laws.{cond-ge}
 use Rattle.refusal.specs.Numbers.{SIZE, LENGTH, STARTS, LINKS, ORDER, ROOM, FAR}
 use Rattle.refusal.specs.declared.Refusal.{Refusal}
 use Rattle.refusal.specs.declared.Verdict.{Verdict}
 use Rattle.refusal.specs.declared.Verdict.the-variants.{Fine, Refused}
-use Rattle.refusal.proofs.Laws.{Numbered, test-numbered, then-numbered}
+use Rattle.refusal.proofs.Laws.{Named, Numbered, test-numbered, then-numbered, gives-apart, refuses-apart, gives-refuses}
 use Rattle.theory.specs.Rows.{Row}
 use Rattle.theory.specs.Plain.{rowBy}
 use Rattle.links.specs.Links.{startsTest, listsTest}
 use Rattle.links.specs.Order.{orderTest}
-use Rattle.rows.specs.Laid.{Laid}
-use Rattle.build.specs.Build.{fullAt, stopAt, walksTest, buildTests, MakeIn, RunIn, RunOut, Outcome, outcome, afterWalks, afterTests, buildOf, builtNumber, builtPlace, builtEntries}
+use Rattle.rows.specs.Inner.{Laid}
+use Rattle.build.specs.Build.{fullAt, stopAt, walksTest, buildTests, BuildOutcome, buildOutcome, afterWalks, afterTests, buildOf, builtTold}
+use Rattle.build.specs.Inner.{MakeIn, RunIn, RunOut}
 use Rattle.build.specs.declared.Built.{Built}
 use Rattle.build.specs.declared.Built.the-variants.{Entries, Refused as NotBuilt}
 use Rattle.build.proofs.RunStops.{at-end}
 use Rattle.build.proofs.BuildTests.{tests-fine}
 
 same-outcome : {a b : Built} {l l′ c c′ m m′ q q′ : List ℕ} → a ≡ b → l ≡ l′ → c ≡ c′ → m ≡ m′ → q ≡ q′
-    → outcome a l c m q ≡ outcome b l′ c′ m′ q′
-same-outcome p l c m q = λ i. outcome (p i) (l i) (c i) (m i) (q i)
+    → buildOutcome a l c m q ≡ buildOutcome b l′ c′ m′ q′
+same-outcome p l c m q = λ i. buildOutcome (p i) (l i) (c i) (m i) (q i)
 
 -- ---- after the tests
 
@@ -43,7 +44,7 @@ module _ {n w k : ℕ} {S L O labels counts met queue : List ℕ} (i : MakeIn n 
         counts-zero = c ∙ ap (λ (j : ℕ). replicate j 0) (i .counts-long);
         met-zero = m ∙ ap (λ (j : ℕ). replicate j 0) (i .met-long);
         queue-zero = q ∙ ap (λ (j : ℕ). replicate j 0) (i .queue-long);
-        noted-far = refl;
+        noted-lacking = refl;
       })
 
 module _ {n′ n w k : ℕ} {S L O : List ℕ} {verdict : Verdict} {labels counts met queue : List ℕ}
@@ -54,7 +55,7 @@ module _ {n′ n w k : ℕ} {S L O : List ℕ} {verdict : Verdict} {labels count
   -- a walk refused: every room 0
   pub stopped-out : {r : Refusal} {labels′ counts′ : List ℕ} → verdict ≡ Refused r → labels′ ≡ replicate (n * w) 0
       → counts′ ≡ replicate n 0
-      → outcome (NotBuilt r) labels′ counts′ met queue ≡ afterWalks n w (rowBy n S L O k) (walksTest n w k S L O)
+      → buildOutcome (NotBuilt r) labels′ counts′ met queue ≡ afterWalks n w (rowBy n S L O k) (walksTest n w k S L O)
   unfolding afterWalks
   stopped-out e l c =
       same-outcome refl l c (o .met-zero) (o .queue-zero)
@@ -62,7 +63,7 @@ module _ {n′ n w k : ℕ} {S L O : List ℕ} {verdict : Verdict} {labels count
 
   -- all walks made: the rule's rows at k, and the sum of the counts
   pub made-out : {entries : ℕ} → verdict ≡ Fine → entries ≡ sum counts
-      → outcome (Entries entries) labels counts met queue ≡ afterWalks n w (rowBy n S L O k) (walksTest n w k S L O)
+      → buildOutcome (Entries entries) labels counts met queue ≡ afterWalks n w (rowBy n S L O k) (walksTest n w k S L O)
   unfolding afterWalks
   made-out e all =
       let at : stopAt n w k S L O ≡ k = at-end n w S L O k (sym (o .answer) ∙ e) in
@@ -73,10 +74,10 @@ module _ {n′ n w k : ℕ} {S L O : List ℕ} {verdict : Verdict} {labels count
 -- ---- the whole
 
 module _ (n w k : ℕ) (S L O labels counts met queue : List ℕ) where
-  lent : Outcome
-  lent = outcome (Entries 0) labels counts met queue
+  lent : BuildOutcome
+  lent = buildOutcome (Entries 0) labels counts met queue
 
-  made : Outcome
+  made : BuildOutcome
   made = afterWalks n w (rowBy n S L O k) (walksTest n w k S L O)
 
   -- what the tests say decides
@@ -88,7 +89,7 @@ module _ (n w k : ℕ) (S L O labels counts met queue : List ℕ) where
   -- a test refused: every room as lent
   pub refused-out : (r : Refusal)
       → buildTests n w k S L O (length labels) (length counts) (length met) (length queue) ≡ Refused r
-      → outcome (NotBuilt r) labels counts met queue ≡ buildOf n w k S L O labels counts met queue
+      → buildOutcome (NotBuilt r) labels counts met queue ≡ buildOf n w k S L O labels counts met queue
   unfolding afterTests lent
   refused-out r e = tests-decide e
 
@@ -102,7 +103,7 @@ module _ (n w k : ℕ) (S L O labels counts met queue : List ℕ) where
     pub make-in : MakeIn (length counts) w k S L O labels counts met queue
     make-in = rw counts-are passed
 
-    pub walked-out : (out : Outcome)
+    pub walked-out : (out : BuildOutcome)
         → out ≡ afterWalks (length counts) w (rowBy (length counts) S L O k) (walksTest (length counts) w k S L O)
         → out ≡ buildOf n w k S L O labels counts met queue
     unfolding afterTests made
@@ -115,20 +116,15 @@ module _ (n w k : ℕ) (S L O labels counts met queue : List ℕ) where
 pub not-made {ℓ} : {C : Type ℓ} {e : ℕ} {r : Refusal} → Entries e ≡ NotBuilt r → C
 not-made q = let z : _≡_ {A = ℕ} 0 1 = cc in absurd (omega arith)
 
--- a refusal has a number
-abbrev Named : Built → Type 0
-Named a = (r : Refusal) → a ≡ NotBuilt r → 0 < r .number
+refused-named : (r : Refusal) → 0 < r .number → Named NotBuilt (NotBuilt r)
+refused-named r h s e = let same : r .number ≡ s .number = cc in omega arith
 
-refused-named : (r : Refusal) → 0 < r .number → Named (NotBuilt r)
-unfolding builtNumber
-refused-named r h s e = omega (arith, ap builtNumber e)
-
-walks-named : (n w : ℕ) (R : ℕ → Row) (v : Verdict) → Numbered v → Named (afterWalks n w R v .answer)
+walks-named : (n w : ℕ) (R : ℕ → Row) (v : Verdict) → Numbered v → Named NotBuilt (afterWalks n w R v .answer)
 unfolding afterWalks
 walks-named n w R Fine h = λ r. not-made
 walks-named n w R (Refused s) h = refused-named s (h s refl)
 
-tests-named : (lent : Outcome) (v : Verdict) (made : Outcome) → Numbered v → Named (made .answer) → Named (afterTests lent v made .answer)
+tests-named : (lent : BuildOutcome) (v : Verdict) (made : BuildOutcome) → Numbered v → Named NotBuilt (made .answer) → Named NotBuilt (afterTests lent v made .answer)
 unfolding afterTests
 tests-named lent Fine made h g = g
 tests-named lent (Refused s) made h g = refused-named s (h s refl)
@@ -148,20 +144,19 @@ tests-numbered n w k S L O labels counts met queue =
     (then-numbered _ _ (test-numbered _ LINKS _ (omega arith)) (test-numbered _ ORDER _ (omega arith)))))
 
 -- every answer of the build is so
-pub build-named : (n w k : ℕ) (S L O labels counts met queue : List ℕ) → Named (buildOf n w k S L O labels counts met queue .answer)
+pub build-named : (n w k : ℕ) (S L O labels counts met queue : List ℕ) → Named NotBuilt (buildOf n w k S L O labels counts met queue .answer)
 unfolding buildOf
 build-named n w k S L O labels counts met queue =
     let R : ℕ → Row = rowBy n S L O k in
     let walked : Verdict = walksTest n w k S L O in
-    tests-named (outcome (Entries 0) labels counts met queue) _ (afterWalks n w R walked)
+    tests-named (buildOutcome (Entries 0) labels counts met queue) _ (afterWalks n w R walked)
     (tests-numbered n w k S L O (length labels) (length counts) (length met) (length queue))
     (walks-named n w R walked (walks-numbered n w k S L O))
 
--- an answer is told by its number, place and entries, as no refusal has the number 0
-pub built-told : (a b : Built) → Named a → Named b
-    → builtNumber a ≡ builtNumber b → builtPlace a ≡ builtPlace b → builtEntries a ≡ builtEntries b → a ≡ b
-unfolding builtNumber builtPlace builtEntries
-built-told (Entries e) (Entries f) p q n m d = ap Entries d
-built-told (Entries e) (NotBuilt s) p q n m d = absurd (omega (arith, q s refl, n))
-built-told (NotBuilt r) (Entries f) p q n m d = absurd (omega (arith, p r refl, n))
-built-told (NotBuilt r) (NotBuilt s) p q n m d = ap NotBuilt (λ i. record { number = n i; place = m i })
+-- answers with the same numbers are the same
+pub built-apart : (a b : Built) → Named NotBuilt a → Named NotBuilt b → builtTold a ≡ builtTold b → a ≡ b
+unfolding builtTold
+built-apart (Entries e) (Entries f) p q t = ap (λ (vs : List ℕ). Entries (getD vs 0 0)) (gives-apart t)
+built-apart (Entries e) (NotBuilt s) p q t = gives-refuses 1 (q s refl) t
+built-apart (NotBuilt r) (Entries f) p q t = gives-refuses 1 (p r refl) (sym t)
+built-apart (NotBuilt r) (NotBuilt s) p q t = ap NotBuilt (refuses-apart 1 t)

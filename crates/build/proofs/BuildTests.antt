@@ -8,7 +8,8 @@ use lib.ListN.{length}
 use lib.Dec.{leb, eqb}
 use Rattle.basics.proofs.Laws.{both-true}
 use Rattle.refusal.specs.Numbers.{SIZE, LENGTH}
-use Rattle.refusal.specs.Sizes.{sizesFit, placesFit, Sizes}
+use Rattle.refusal.specs.Sizes.{sizesFit, placesFit}
+use Rattle.refusal.specs.Inner.{Sizes}
 use Rattle.refusal.specs.Tests.{test, _then_, refusal}
 use Rattle.refusal.specs.declared.Refusal.{Refusal}
 use Rattle.refusal.specs.declared.Verdict.{Verdict}
@@ -20,7 +21,8 @@ use Rattle.links.specs.Order.{orderTest, checkOrder}
 use Rattle.links.specs.Inner.{Fits}
 use Rattle.links.proofs.Links.{links-alone, links-sound}
 use Rattle.links.proofs.Order.{order-alone, order-sound}
-use Rattle.build.specs.Build.{buildSizes, buildRooms, buildTests, MakeIn}
+use Rattle.build.specs.Build.{buildSizes, buildRooms, buildTests}
+use Rattle.build.specs.Inner.{MakeIn}
 
 -- test 1 passed
 pub record InRange (n w k places : ℕ) : Type 0 where

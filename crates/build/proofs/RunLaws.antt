@@ -21,11 +21,12 @@ use Rattle.entry.specs.Entry.{rankOf, encode, decode}
 use Rattle.rows.specs.Rooms.{rowAt, part}
 use Rattle.entry.proofs.Laws.{length-encode, decode-encode, decoded}
 use Rattle.rows.proofs.Laws.{length-part, part-table}
-use Rattle.build.specs.Build.{fullAt, farFrame, farAt, Tested}
-use Rattle.rows.specs.Laid.{labelsOf, countsOf, Laid, rowsIn}
-use Rattle.walk.specs.Explore.{SoundRows}
-use Rattle.walk.specs.Walk.{soFar, levelOf, kept, walkFits}
-use Rattle.walk.specs.Settle.{walkedRows, walkNear, decided, walkOf}
+use Rattle.build.specs.Build.{fullAt, farFrame, farAt}
+use Rattle.build.specs.Inner.{Tested}
+use Rattle.rows.specs.Laid.{labelsOf, countsOf, rowsIn}
+use Rattle.rows.specs.Inner.{Laid}
+use Rattle.walk.specs.Inner.{RisingRows}
+use Rattle.walk.specs.Walk.{soFar, levelOf, kept, walkFits, walkedRows, walkNear, decided, walkOf}
 use Rattle.rows.proofs.LaidLaws.{length-labels, laid-ext, count-at}
 
 -- ---- one kept entry
@@ -126,7 +127,7 @@ module _ {n w k : ℕ} {S L O : List ℕ} {r : ℕ} (g : Ruled n w k S L O r) wh
       (omega (arith, ap (λ (row : List ℕ). length row) (row-is n w rows v h (g .fit v h)), length-encode (rows v)))
       .0
 
-  pub sound-back : SoundRows n w labels counts
+  pub sound-back : RisingRows n w labels counts
   sound-back =
       record {
         fits = λ v h. omega (arith, count-at n rows v h, g .fit v h);

@@ -16,9 +16,12 @@ use Rattle.refusal.proofs.Laws.{fine-not-refused}
 use Rattle.theory.specs.Links.{hubOf}
 use Rattle.theory.specs.Rows.{Row}
 use Rattle.theory.specs.Plain.{rowBy}
-use Rattle.build.specs.Build.{fullAt, farAt, stops, stopAt, walksTest, verdictOf, RunIn, RunOut}
-use Rattle.rows.specs.Laid.{labelsOf, countsOf, Laid}
-use Rattle.walk.specs.Settle.{WalkIn, WalkOut, decided, walkedRows, ifMade}
+use Rattle.build.specs.Build.{fullAt, farAt, stops, stopAt, walksTest}
+use Rattle.build.specs.Inner.{walkVerdict, RunIn, RunOut}
+use Rattle.rows.specs.Laid.{labelsOf, countsOf}
+use Rattle.rows.specs.Inner.{Laid}
+use Rattle.walk.specs.Inner.{WalkIn, WalkOut}
+use Rattle.walk.specs.Walk.{decided, walkedRows, ifMade}
 use Rattle.walk.specs.declared.Walked.{Walked}
 use Rattle.walk.specs.declared.Walked.the-variants.{Made, Full, Far}
 use Rattle.rows.proofs.LaidLaws.{laid-long, laid-ext, length-labels}
@@ -34,7 +37,7 @@ pub record Running (n w k : ℕ) (S L O : List ℕ) (r : ℕ) (labels counts met
   pub laid : Laid n w (rowBy n S L O r) labels counts
   pub met-zero : met ≡ replicate n 0
   pub queue-zero : queue ≡ replicate n 0
-  pub noted-far : noted ≡ replicate 4096 65536
+  pub noted-lacking : noted ≡ replicate 4096 65536
   pub none : (j : ℕ) → j < r → stops n w S L O j ≡ false
 
 pub run-begins : {n w k : ℕ} {S L O labels counts met queue noted : List ℕ} → RunIn n w k S L O labels counts met queue noted
@@ -45,7 +48,7 @@ run-begins {n} {w} {k} {S} {L} {O} i =
       laid = rw (i .labels-zero, i .counts-zero) (laid-empty n w S L O);
       met-zero = i .met-zero;
       queue-zero = i .queue-zero;
-      noted-far = i .noted-far;
+      noted-lacking = i .noted-lacking;
       none = λ j h. absurd (omega arith);
     }
 
@@ -79,7 +82,7 @@ run-lengths {n} {w} i s =
       of-counts = laid-long (s .laid) .1 ∙ sym (ap length (i .counts-zero) ∙ length-replicate n 0);
       of-met = ap length (s .met-zero ∙ sym (i .met-zero));
       of-queue = ap length (s .queue-zero ∙ sym (i .queue-zero));
-      of-noted = ap length (s .noted-far ∙ sym (i .noted-far));
+      of-noted = ap length (s .noted-lacking ∙ sym (i .noted-lacking));
     }
 
 module _ {n w k : ℕ} {S L O labels₀ counts₀ met₀ queue₀ noted₀ labels counts met queue noted : List ℕ} {r : ℕ}
@@ -110,7 +113,7 @@ module _ {n w k : ℕ} {S L O labels₀ counts₀ met₀ queue₀ noted₀ label
               hub-in = i .given .order .inside r below;
               met-zero = s .met-zero;
               queue-zero = s .queue-zero;
-              noted-far = s .noted-far;
+              noted-lacking = s .noted-lacking;
             };
         laid = laid-back ruled;
       })
@@ -150,19 +153,19 @@ module _ {n w k : ℕ} {S L O labels₀ counts₀ met₀ queue₀ noted₀ label
           laid = laid-ext (rowBy n S L O (r + 1)) (i .given .sizes .some-width) (λ v l. made-is made _ _ ∙ after v l) (out .laid);
           met-zero = out .met-zero;
           queue-zero = out .queue-zero;
-          noted-far = notes ∙ s .noted-far;
+          noted-lacking = notes ∙ s .noted-lacking;
           none = below-more _ r (s .none) (neither (fullAt n w S L O r) (farAt n S L O r) e f);
         }
 
     -- a walk that is not made ends it at this rank, with rows and counts as they were
-    stopped : {verdict : Verdict} {how : Walked} → verdict ≡ verdictOf walked r → walked ≡ how
-        → ((x y : Row) → ifMade how x y ≡ y) → stops n w S L O r ≡ true → walksTest n w k S L O ≡ verdictOf how r
+    stopped : {verdict : Verdict} {how : Walked} → verdict ≡ walkVerdict walked r → walked ≡ how
+        → ((x y : Row) → ifMade how x y ≡ y) → stops n w S L O r ≡ true → walksTest n w k S L O ≡ walkVerdict how r
         → RunOut n w k S L O verdict labels′ counts′ met′ queue′
     stopped said is still e test =
         let at : r ≡ stopAt n w k S L O = sym (stop-here n w S L O k r h (s .none) e) in
         let same : (x y : Row) → ifMade walked x y ≡ y = λ x y. ap (λ (z : Walked). ifMade z x y) is ∙ still x y in
         record {
-          answer = said ∙ ap (λ (z : Walked). verdictOf z r) is ∙ sym test;
+          answer = said ∙ ap (λ (z : Walked). walkVerdict z r) is ∙ sym test;
           laid =
               rw at at
               (laid-ext (rowBy n S L O r) (i .given .sizes .some-width) (λ v l. same _ _ ∙ rows-back ruled v l) (out .laid));
@@ -170,21 +173,21 @@ module _ {n w k : ℕ} {S L O labels₀ counts₀ met₀ queue₀ noted₀ label
           queue-zero = out .queue-zero;
         }
 
-    pub run-next : verdictOf walked r ≡ Fine → Running n w k S L O (r + 1) labels′ counts′ met′ queue′ noted′
-    unfolding verdictOf
+    pub run-next : walkVerdict walked r ≡ Fine → Running n w k S L O (r + 1) labels′ counts′ met′ queue′ noted′
+    unfolding walkVerdict
     run-next fine =
         by-walk
-        (λ e is. fine-not-refused (sym fine ∙ ap (λ (z : Walked). verdictOf z r) is))
-        (λ e f is. fine-not-refused (sym fine ∙ ap (λ (z : Walked). verdictOf z r) is))
+        (λ e is. fine-not-refused (sym fine ∙ ap (λ (z : Walked). walkVerdict z r) is))
+        (λ e f is. fine-not-refused (sym fine ∙ ap (λ (z : Walked). walkVerdict z r) is))
         next
 
-    pub run-stops : {verdict : Verdict} {refused : Refusal} → verdict ≡ verdictOf walked r → verdict ≡ Refused refused
+    pub run-stops : {verdict : Verdict} {refused : Refusal} → verdict ≡ walkVerdict walked r → verdict ≡ Refused refused
         → RunOut n w k S L O verdict labels′ counts′ met′ queue′
-    unfolding verdictOf ifMade
+    unfolding walkVerdict ifMade
     run-stops said not-fine =
         by-walk
         (λ e is.
         stopped said is (λ x y. refl) (either-left (fullAt n w S L O r) (farAt n S L O r) e) (run-full n w S L O k r h (s .none) e))
         (λ e f is.
         stopped said is (λ x y. refl) (either-right (fullAt n w S L O r) (farAt n S L O r) f) (run-far n w S L O k r h (s .none) e f))
-        (λ e f is. fine-not-refused (sym (said ∙ ap (λ (z : Walked). verdictOf z r) is) ∙ not-fine))
+        (λ e f is. fine-not-refused (sym (said ∙ ap (λ (z : Walked). walkVerdict z r) is) ∙ not-fine))

@@ -16,7 +16,8 @@ use Rattle.theory.specs.Rows.{Row}
 use Rattle.theory.specs.Plain.{rowBy}
 use Rattle.theory.proofs.Plain.{row-none}
 use Rattle.entry.specs.Entry.{encode}
-use Rattle.rows.specs.Laid.{labelsOf, countsOf, Laid}
+use Rattle.rows.specs.Laid.{labelsOf, countsOf}
+use Rattle.rows.specs.Inner.{Laid}
 use Rattle.build.specs.Build.{fullAt, farAt, stops, stopAt, walksTest}
 
 no-entry : (i : ℕ) → getD (encode []) i 0 ≡ 0

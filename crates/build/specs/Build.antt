@@ -1,26 +1,24 @@
 -- What a build gives back and leaves in the rooms it is lent: the paper's tests, and then the rows of the ROW RULE, not of
 -- any walk. n frames, width w, stop k, start positions S, neighbour places L, order O.
-use Prim.Native.Nat.{ℕ, suc, _+_, _*_, _≤_}
-use mathlib.Core.Path.{_≡_}
+use Prim.Native.Nat.{ℕ, suc, _+_, _*_}
 use mathlib.Core.Bool.{Bool, cond, _&&_, _||_}
-use mathlib.Core.List.{List}
+use mathlib.Core.List.{List, [], _∷_}
 use lib.ListN.{length, replicate}
 use lib.Dec.{leb, ltb, eqb}
 use Rattle.basics.specs.Places.{first, some, sum}
 use Rattle.refusal.specs.Numbers.{SIZE, LENGTH, ROOM, FAR}
-use Rattle.refusal.specs.Sizes.{sizesFit, placesFit, Sizes}
-use Rattle.refusal.specs.Tests.{refusal, test, _then_}
+use Rattle.refusal.specs.Sizes.{mostJoins, sizesFit, placesFit}
+use Rattle.refusal.specs.Tests.{test, _then_}
+use Rattle.refusal.specs.Told.{Told, gives, refuses}
 use Rattle.refusal.specs.declared.Verdict.{Verdict}
 use Rattle.refusal.specs.declared.Verdict.the-variants.{Fine, Refused}
 use Rattle.theory.specs.Distance.{far}
-use Rattle.theory.specs.Links.{Block, Order, hubOf}
+use Rattle.theory.specs.Links.{hubOf}
 use Rattle.theory.specs.Rows.{Row, hubs}
-use Rattle.theory.specs.Plain.{ones, joinsTo, rowBy}
+use Rattle.theory.specs.Plain.{joinsTo, rowBy}
 use Rattle.links.specs.Links.{startsTest, listsTest}
 use Rattle.links.specs.Order.{orderTest}
-use Rattle.rows.specs.Laid.{labelsOf, countsOf, Laid}
-use Rattle.walk.specs.declared.Walked.{Walked}
-use Rattle.walk.specs.declared.Walked.the-variants.{Made, Full, Far}
+use Rattle.rows.specs.Laid.{labelsOf, countsOf}
 use Rattle.build.specs.declared.Built.{Built}
 use Rattle.build.specs.declared.Built.the-variants.{Entries, Refused as NotBuilt}
 
@@ -51,7 +49,7 @@ fullAt n w S L O r = some (λ v. ltb w (length (rowBy n S L O (suc r) v))) 0 n
 unfoldable pub farFrame : ℕ → List ℕ → List ℕ → List ℕ → ℕ → ℕ → Bool
 farFrame n S L O r v =
     ltb (joinsTo n S L (hubOf O r) v) (hubs (far 1 n) (joinsTo n S L) (hubOf O) r (hubOf O r) v)
-    && ltb 4095 (joinsTo n S L (hubOf O r) v)
+    && ltb mostJoins (joinsTo n S L (hubOf O r) v)
 
 -- at rank r a frame is given over 4,095 joins
 unfoldable pub farAt : ℕ → List ℕ → List ℕ → List ℕ → ℕ → Bool
@@ -72,75 +70,25 @@ walksTest n w k S L O =
     let full : Bool = fullAt n w S L O r in
     test (eqb r k) (cond full ROOM FAR) (cond full r 0)
 
--- what the tests show of what is only read: a block and an order
-pub record Tested (n w k : ℕ) (S L O : List ℕ) : Type 0 where
-  pub sizes : Sizes n w
-  pub stop : k ≤ n
-  pub block : Block n 1 S L ones
-  pub order : Order n O
-
--- and of the rooms to fill: they have the right length
-pub record MakeIn (n w k : ℕ) (S L O labels counts met queue : List ℕ) : Type 0 where
-  pub given : Tested n w k S L O
-  pub labels-long : length labels ≡ n * w
-  pub counts-long : length counts ≡ n
-  pub met-long : length met ≡ n
-  pub queue-long : length queue ≡ n
-
--- the same with the rooms cleared
-pub record RunIn (n w k : ℕ) (S L O labels counts met queue noted : List ℕ) : Type 0 where
-  pub given : Tested n w k S L O
-  pub labels-zero : labels ≡ replicate (n * w) 0
-  pub counts-zero : counts ≡ replicate n 0
-  pub met-zero : met ≡ replicate n 0
-  pub queue-zero : queue ≡ replicate n 0
-  pub noted-far : noted ≡ replicate 4096 65536
-
--- what a walk of this rank makes of the build: ROOM at the rank, FAR at 0
-unfoldable pub verdictOf : Walked → ℕ → Verdict
-verdictOf Made rank = Fine
-verdictOf Full rank = Refused (refusal ROOM rank)
-verdictOf Far rank = Refused (refusal FAR 0)
-
--- what the walks give back, and the rooms after them: the rows of the rule at the rank where they stopped
-pub record RunOut (n w k : ℕ) (S L O : List ℕ) (verdict : Verdict)
-    (labels-after counts-after met-after queue-after : List ℕ) : Type 0 where
-  pub answer : verdict ≡ walksTest n w k S L O
-  pub laid : Laid n w (rowBy n S L O (stopAt n w k S L O)) labels-after counts-after
-  pub met-zero : met-after ≡ replicate n 0
-  pub queue-zero : queue-after ≡ replicate n 0
-
--- the paper's number, place and number of entries: success is 0, and on a refusal any other number is 0
-unfoldable pub builtNumber : Built → ℕ
-builtNumber (Entries entries) = 0
-builtNumber (NotBuilt r) = r .number
-
-unfoldable pub builtPlace : Built → ℕ
-builtPlace (Entries entries) = 0
-builtPlace (NotBuilt r) = r .place
-
-unfoldable pub builtEntries : Built → ℕ
-builtEntries (Entries entries) = entries
-builtEntries (NotBuilt r) = 0
+-- the paper's numbers: the number of entries
+unfoldable pub builtTold : Built → Told
+builtTold (Entries entries) = gives (entries ∷ [])
+builtTold (NotBuilt r) = refuses r 1
 
 -- what comes back, also in the paper's numbers, and what the lent rooms then hold
-pub record Outcome : Type 0 where
+pub record BuildOutcome : Type 0 where
   pub answer : Built
-  pub number : ℕ
-  pub place : ℕ
-  pub entries : ℕ
+  pub told : Told
   pub labels : List ℕ
   pub counts : List ℕ
   pub met : List ℕ
   pub queue : List ℕ
 
-abbrev pub outcome : Built → List ℕ → List ℕ → List ℕ → List ℕ → Outcome
-outcome answer labels counts met queue =
+abbrev pub buildOutcome : Built → List ℕ → List ℕ → List ℕ → List ℕ → BuildOutcome
+buildOutcome answer labels counts met queue =
     record {
       answer = answer;
-      number = builtNumber answer;
-      place = builtPlace answer;
-      entries = builtEntries answer;
+      told = builtTold answer;
       labels = labels;
       counts = counts;
       met = met;
@@ -149,20 +97,20 @@ outcome answer labels counts met queue =
 
 -- all walks made: the number of entries is the sum of all counts, and both work rooms are 0. A walk refused: labels,
 -- counts, work rooms all 0
-unfoldable pub afterWalks : ℕ → ℕ → (ℕ → Row) → Verdict → Outcome
+unfoldable pub afterWalks : ℕ → ℕ → (ℕ → Row) → Verdict → BuildOutcome
 afterWalks n w R Fine =
-    outcome (Entries (sum (countsOf n R))) (labelsOf n w R) (countsOf n R) (replicate n 0) (replicate n 0)
+    buildOutcome (Entries (sum (countsOf n R))) (labelsOf n w R) (countsOf n R) (replicate n 0) (replicate n 0)
 afterWalks n w R (Refused r) =
-    outcome (NotBuilt r) (replicate (n * w) 0) (replicate n 0) (replicate n 0) (replicate n 0)
+    buildOutcome (NotBuilt r) (replicate (n * w) 0) (replicate n 0) (replicate n 0) (replicate n 0)
 
 -- a test refused: every room as lent
-unfoldable pub afterTests : Outcome → Verdict → Outcome → Outcome
+unfoldable pub afterTests : BuildOutcome → Verdict → BuildOutcome → BuildOutcome
 afterTests lent Fine made = made
-afterTests lent (Refused r) made = outcome (NotBuilt r) (lent .labels) (lent .counts) (lent .met) (lent .queue)
+afterTests lent (Refused r) made = buildOutcome (NotBuilt r) (lent .labels) (lent .counts) (lent .met) (lent .queue)
 
 -- the build: its tests, then the rows by the row rule at stop k
-unfoldable pub buildOf : ℕ → ℕ → ℕ → List ℕ → List ℕ → List ℕ → List ℕ → List ℕ → List ℕ → List ℕ → Outcome
+unfoldable pub buildOf : ℕ → ℕ → ℕ → List ℕ → List ℕ → List ℕ → List ℕ → List ℕ → List ℕ → List ℕ → BuildOutcome
 buildOf n w k S L O labels counts met queue =
-    let made : Outcome = afterWalks n w (rowBy n S L O k) (walksTest n w k S L O) in
-    afterTests (outcome (Entries 0) labels counts met queue)
+    let made : BuildOutcome = afterWalks n w (rowBy n S L O k) (walksTest n w k S L O) in
+    afterTests (buildOutcome (Entries 0) labels counts met queue)
     (buildTests n w k S L O (length labels) (length counts) (length met) (length queue)) made

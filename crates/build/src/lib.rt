@@ -3,10 +3,10 @@ use entry::Entry;
 use refusal::Refusal;
 use refusal::Verdict;
 ghost use mathlib.Core.Path.{_≡_};
-ghost use Rattle.build.specs.Build.{outcome, buildOf};
+ghost use Rattle.build.specs.Build.{buildOutcome, buildOf};
 
+mod clear;
 mod make;
-mod rooms;
 mod run;
 mod tests;
 
@@ -31,8 +31,10 @@ pub fn build(
     queue: &mut [u32],
 ) -> Built
     ensures { λ r. ⌜
-        outcome r (now (labels .exit)) (now (counts .exit)) (now (met .exit)) (now (queue .exit))
-        ≡ buildOf n w k (now (starts .entry)) (now (places .entry)) (now (order .entry)) (now (labels .entry))
+        buildOutcome r (now (labels .exit)) (now (counts .exit)) (now (met .exit))
+        (now (queue .exit))
+        ≡ buildOf n w k (now (starts .entry)) (now (places .entry)) (now (order .entry))
+        (now (labels .entry))
         (now (counts .entry)) (now (met .entry)) (now (queue .entry))
         ⌝ }
 {

@@ -1,7 +1,7 @@
 // The build once its tests are passed: the rooms cleared, the walks, and the entries counted.
 use crate::Built;
-use crate::rooms::clear;
-use crate::rooms::clear_labels;
+use crate::clear::clear;
+use crate::clear::clear_labels;
 use crate::run::walks;
 use entry::Entry;
 use refusal::Verdict;
@@ -9,7 +9,8 @@ use rows::rooms::total;
 ghost use mathlib.Core.Path.{_≡_};
 ghost use lib.ListN.{length};
 ghost use Rattle.theory.specs.Plain.{rowBy};
-ghost use Rattle.build.specs.Build.{MakeIn, walksTest, outcome, afterWalks};
+ghost use Rattle.build.specs.Inner.{MakeIn};
+ghost use Rattle.build.specs.Build.{walksTest, buildOutcome, afterWalks};
 
 // All walks, and the number of entries; where a walk is refused, every room 0.
 pub fn make(
@@ -24,13 +25,17 @@ pub fn make(
     queue: &mut [u32],
 ) -> Built
     requires { ⌜
-        MakeIn (length (now counts)) w k (now starts) (now places) (now order) (now labels) (now counts) (now met) (now queue)
+        MakeIn (length (now counts)) w k (now starts) (now places) (now order) (now labels)
+        (now counts) (now met) (now queue)
         ⌝ }
     ensures { λ r. ⌜
-        outcome r (now (labels .exit)) (now (counts .exit)) (now (met .exit)) (now (queue .exit))
+        buildOutcome r (now (labels .exit)) (now (counts .exit)) (now (met .exit))
+        (now (queue .exit))
         ≡ afterWalks (length (now (counts .entry))) w
-        (rowBy (length (now (counts .entry))) (now (starts .entry)) (now (places .entry)) (now (order .entry)) k)
-        (walksTest (length (now (counts .entry))) w k (now (starts .entry)) (now (places .entry)) (now (order .entry)))
+        (rowBy (length (now (counts .entry))) (now (starts .entry)) (now (places .entry))
+        (now (order .entry)) k)
+        (walksTest (length (now (counts .entry))) w k (now (starts .entry)) (now (places .entry))
+        (now (order .entry)))
         ⌝ }
 {
     clear_labels(labels);

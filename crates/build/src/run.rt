@@ -6,11 +6,13 @@ use walk::Walked;
 use walk::walk;
 ghost use mathlib.Core.Path.{_≡_};
 ghost use lib.ListN.{length, replicate};
-ghost use Rattle.build.specs.Build.{RunIn, RunOut, verdictOf};
+ghost use Rattle.refusal.specs.Sizes.{mostFrames};
+ghost use Rattle.walk.specs.Inner.{lacking};
+ghost use Rattle.build.specs.Inner.{RunIn, RunOut, walkVerdict};
 
 // What a walk of this rank makes of the build: ROOM at the rank, FAR at 0.
-pub fn verdict_of(walked: Walked, rank: usize) -> Verdict
-    ensures { λ r. ⌜ r ≡ verdictOf walked rank ⌝ }
+pub fn walk_verdict(walked: Walked, rank: usize) -> Verdict
+    ensures { λ r. ⌜ r ≡ walkVerdict walked rank ⌝ }
 {
     match walked {
         Walked::Made => Verdict::Fine,
@@ -33,11 +35,13 @@ pub fn run(
     noted: &mut [u32],
 ) -> Verdict
     requires { ⌜
-        RunIn (length (now counts)) w k (now starts) (now places) (now order) (now labels) (now counts) (now met) (now queue)
+        RunIn (length (now counts)) w k (now starts) (now places) (now order) (now labels)
+        (now counts) (now met) (now queue)
         (now noted)
         ⌝ }
     ensures { λ r. ⌜
-        RunOut (length (now (counts .entry))) w k (now (starts .entry)) (now (places .entry)) (now (order .entry)) r
+        RunOut (length (now (counts .entry))) w k (now (starts .entry)) (now (places .entry))
+        (now (order .entry)) r
         (now (labels .exit)) (now (counts .exit)) (now (met .exit)) (now (queue .exit))
         ⌝ }
 {
@@ -56,7 +60,7 @@ pub fn run(
             queue,
             noted,
         );
-        let verdict = verdict_of(walked, rank);
+        let verdict = walk_verdict(walked, rank);
         let Verdict::Fine = verdict else {
             return verdict;
         };
@@ -65,7 +69,7 @@ pub fn run(
     Verdict::Fine
 }
 
-// The same, with the notes of the hub's row that the walks share: 65,536 at every rank.
+// The same, with the notes of the hub's row that the walks share: `LACKING` at every rank.
 pub fn walks(
     w: usize,
     k: usize,
@@ -78,11 +82,13 @@ pub fn walks(
     queue: &mut [u32],
 ) -> Verdict
     requires { ⌜
-        RunIn (length (now counts)) w k (now starts) (now places) (now order) (now labels) (now counts) (now met) (now queue)
-        (replicate 4096 65536)
+        RunIn (length (now counts)) w k (now starts) (now places) (now order) (now labels)
+        (now counts) (now met) (now queue)
+        (replicate mostFrames lacking)
         ⌝ }
     ensures { λ r. ⌜
-        RunOut (length (now (counts .entry))) w k (now (starts .entry)) (now (places .entry)) (now (order .entry)) r
+        RunOut (length (now (counts .entry))) w k (now (starts .entry)) (now (places .entry))
+        (now (order .entry)) r
         (now (labels .exit)) (now (counts .exit)) (now (met .exit)) (now (queue .exit))
         ⌝ }
 {

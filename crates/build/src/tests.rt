@@ -6,7 +6,7 @@ ghost use Prim.Native.Nat.{_≤_};
 ghost use Rattle.build.specs.Build.{buildSizes, buildRooms, buildTests};
 
 // n, W, k and the number of neighbour places are in range.
-pub fn sizes_fit(n: usize, w: usize, k: usize, places: usize) -> bool
+pub fn build_sizes(n: usize, w: usize, k: usize, places: usize) -> bool
     ensures { λ r. ⌜ r ≡ buildSizes n w k places ⌝ }
 {
     let sizes = refusal::sizes::sizes_fit(n, w);
@@ -20,7 +20,7 @@ pub fn sizes_fit(n: usize, w: usize, k: usize, places: usize) -> bool
 }
 
 // Every room has its exact length.
-pub fn rooms_fit(
+pub fn build_rooms(
     n: usize,
     w: usize,
     starts: usize,
@@ -68,14 +68,15 @@ pub fn tests(
 ) -> Verdict
     ensures { λ r. ⌜
         r
-        ≡ buildTests n w k (now (starts .entry)) (now (places .entry)) (now (order .entry)) labels counts met queue
+        ≡ buildTests n w k (now (starts .entry)) (now (places .entry)) (now (order .entry)) labels
+        counts met queue
         ⌝ }
 {
-    let sizes = sizes_fit(n, w, k, places.len());
+    let sizes = build_sizes(n, w, k, places.len());
     if !sizes {
         return refusal::refused(refusal::SIZE, 0);
     }
-    let lengths = rooms_fit(n, w, starts.len(), order.len(), labels, counts, met, queue);
+    let lengths = build_rooms(n, w, starts.len(), order.len(), labels, counts, met, queue);
     if !lengths {
         return refusal::refused(refusal::LENGTH, 0);
     }

@@ -1,10 +1,9 @@
--- Rooms beside told numbers change none of them.
+-- Rooms beside what is told change nothing of it.
 use Prim.Native.Nat.{ℕ}
 use mathlib.Core.Path.{_≡_, ap}
-use mathlib.Core.List.{List, []}
-use Rattle.capi.specs.Outs.{Outs, outs, withRooms}
+use mathlib.Core.List.{List}
+use Rattle.refusal.specs.Told.{Told}
+use Rattle.capi.specs.Outs.{outs}
 
-pub with-rooms : {number place : ℕ} {values : List ℕ} {o : Outs} (rooms : List (List ℕ)) → outs number place values [] ≡ o
-    → outs number place values rooms ≡ withRooms o rooms
-unfolding withRooms
-with-rooms rooms e = ap (λ (o : Outs). withRooms o rooms) e
+pub with-rooms : {t u : Told} (rooms : List (List ℕ)) → t ≡ u → outs t rooms ≡ outs u rooms
+with-rooms rooms e = ap (λ (t : Told). outs t rooms) e

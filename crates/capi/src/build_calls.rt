@@ -2,7 +2,7 @@
 ghost use mathlib.Core.Path.{_≡_};
 ghost use mathlib.Core.List.{[], _∷_};
 ghost use Rattle.build.specs.Build.{buildOf};
-ghost use Rattle.capi.specs.Outs.{outs, buildOuts};
+ghost use Rattle.capi.specs.Outs.{outs, tells, buildOuts};
 use build::Built;
 use entry::Entry;
 
@@ -23,10 +23,11 @@ pub extern "C" fn seam_build(
     place: &mut u64,
 ) -> u32
     ensures { λ r. ⌜
-        outs r (now (place .exit)) (now (entries .exit) ∷ [])
-        (now (labels .exit) ∷ (now (counts .exit) ∷ (now (met .exit) ∷ (now (queue .exit) ∷ []))))
+        outs (tells r (now (place .exit)) (now (entries .exit) ∷ []))
+        (now (labels .exit) ∷ now (counts .exit) ∷ now (met .exit) ∷ now (queue .exit) ∷ [])
         ≡ buildOuts
-        (buildOf n w k (now (starts .entry)) (now (places .entry)) (now (order .entry)) (now (labels .entry)) (now (counts .entry)) (now (met .entry)) (now (queue .entry)))
+        (buildOf n w k (now (starts .entry)) (now (places .entry)) (now (order .entry))
+        (now (labels .entry)) (now (counts .entry)) (now (met .entry)) (now (queue .entry)))
         ⌝ }
 {
     match build::build(n, w, k, starts, places, order, labels, counts, met, queue) {

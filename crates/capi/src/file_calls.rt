@@ -2,8 +2,8 @@
 ghost use mathlib.Core.Path.{_≡_};
 ghost use mathlib.Core.List.{[], _∷_};
 ghost use Rattle.file.specs.Writer.{writeOf};
-ghost use Rattle.file.specs.Reader.{headerOf, readOf};
-ghost use Rattle.capi.specs.Outs.{outs, writeOuts, headerOuts, readOuts};
+ghost use Rattle.file.specs.Reader.{openedTold, headerOf, readOf};
+ghost use Rattle.capi.specs.Outs.{outs, tells, writeOuts, readOuts};
 use entry::Entry;
 use file::Opened;
 use file::Written;
@@ -23,9 +23,10 @@ pub extern "C" fn seam_write(
     place: &mut u64,
 ) -> u32
     ensures { λ r. ⌜
-        outs r (now (place .exit)) (now (bytes .exit) ∷ []) (now (out .exit) ∷ [])
+        outs (tells r (now (place .exit)) (now (bytes .exit) ∷ [])) (now (out .exit) ∷ [])
         ≡ writeOuts
-        (writeOf n k w (now (order .entry)) (now (labels .entry)) (now (counts .entry)) (now (out .entry)) start)
+        (writeOf n w k (now (order .entry)) (now (labels .entry)) (now (counts .entry))
+        (now (out .entry)) start)
         ⌝ }
 {
     match file::write(n, w, k, order, labels, counts, out, start) {
@@ -45,7 +46,7 @@ pub extern "C" fn seam_write(
 // What opening a file gave: n and k, or the number and place of its refusal.
 fn opened(answer: Opened, n: &mut u64, k: &mut u64, place: &mut u64) -> u32
     ensures { λ r. ⌜
-        outs r (now (place .exit)) (now (n .exit) ∷ (now (k .exit) ∷ [])) [] ≡ headerOuts answer
+        tells r (now (place .exit)) (now (n .exit) ∷ now (k .exit) ∷ []) ≡ openedTold answer
         ⌝ }
 {
     match answer {
@@ -68,7 +69,8 @@ fn opened(answer: Opened, n: &mut u64, k: &mut u64, place: &mut u64) -> u32
 #[no_mangle]
 pub extern "C" fn seam_header(bytes: &[u8], n: &mut u64, k: &mut u64, place: &mut u64) -> u32
     ensures { λ r. ⌜
-        outs r (now (place .exit)) (now (n .exit) ∷ (now (k .exit) ∷ [])) [] ≡ headerOuts (headerOf (now (bytes .entry)))
+        tells r (now (place .exit)) (now (n .exit) ∷ now (k .exit) ∷ [])
+        ≡ openedTold (headerOf (now (bytes .entry)))
         ⌝ }
 {
     opened(file::header(bytes), n, k, place)
@@ -87,10 +89,11 @@ pub extern "C" fn seam_read(
     place: &mut u64,
 ) -> u32
     ensures { λ r. ⌜
-        outs r (now (place .exit)) (now (n .exit) ∷ (now (k .exit) ∷ []))
-        (now (order .exit) ∷ (now (labels .exit) ∷ (now (counts .exit) ∷ [])))
+        outs (tells r (now (place .exit)) (now (n .exit) ∷ now (k .exit) ∷ []))
+        (now (order .exit) ∷ now (labels .exit) ∷ now (counts .exit) ∷ [])
         ≡ readOuts
-        (readOf (now (bytes .entry)) w (now (order .entry)) (now (labels .entry)) (now (counts .entry)))
+        (readOf (now (bytes .entry)) w (now (order .entry)) (now (labels .entry))
+        (now (counts .entry)))
         ⌝ }
 {
     opened(file::read(bytes, w, order, labels, counts), n, k, place)

@@ -1,16 +1,18 @@
 // The links and the hub order: both tests, and the order by degree.
 ghost use mathlib.Core.Path.{_≡_};
 ghost use mathlib.Core.List.{[], _∷_};
+ghost use Rattle.refusal.specs.Told.{verdictTold};
 ghost use Rattle.links.specs.Links.{checkLinks};
 ghost use Rattle.links.specs.Order.{checkOrder, degreeOf};
-ghost use Rattle.capi.specs.Outs.{outs, testOuts, orderOuts};
+ghost use Rattle.capi.specs.Outs.{outs, tells, orderOuts};
 use crate::tell::told;
 
 // Check links.
 #[no_mangle]
 pub extern "C" fn seam_check_links(n: usize, starts: &[u32], places: &[u32], place: &mut u64) -> u32
     ensures { λ r. ⌜
-        outs r (now (place .exit)) [] [] ≡ testOuts (checkLinks n (now (starts .entry)) (now (places .entry)))
+        tells r (now (place .exit)) []
+        ≡ verdictTold (checkLinks n (now (starts .entry)) (now (places .entry)))
         ⌝ }
 {
     told(links::check_links(n, starts, places), place)
@@ -19,7 +21,9 @@ pub extern "C" fn seam_check_links(n: usize, starts: &[u32], places: &[u32], pla
 // Check order.
 #[no_mangle]
 pub extern "C" fn seam_check_order(n: usize, order: &[u32], place: &mut u64) -> u32
-    ensures { λ r. ⌜ outs r (now (place .exit)) [] [] ≡ testOuts (checkOrder n (now (order .entry))) ⌝ }
+    ensures { λ r. ⌜
+        tells r (now (place .exit)) [] ≡ verdictTold (checkOrder n (now (order .entry)))
+        ⌝ }
 {
     told(links::check_order(n, order), place)
 }
@@ -34,7 +38,7 @@ pub extern "C" fn seam_order_by_degree(
     place: &mut u64,
 ) -> u32
     ensures { λ r. ⌜
-        outs r (now (place .exit)) [] (now (order .exit) ∷ [])
+        outs (tells r (now (place .exit)) []) (now (order .exit) ∷ [])
         ≡ orderOuts (degreeOf n (now (starts .entry)) (now (places .entry)) (now (order .entry)))
         ⌝ }
 {

@@ -1,10 +1,12 @@
 // The questions asked of the rows: the pair question, the row check and lookup, and the spread.
 ghost use mathlib.Core.Path.{_≡_};
 ghost use mathlib.Core.List.{[], _∷_};
+ghost use Rattle.refusal.specs.Told.{verdictTold};
 ghost use Rattle.rows.specs.Rooms.{checkRow};
-ghost use Rattle.rows.specs.Pair.{pairOf, told};
+ghost use Rattle.rows.specs.Lookup.{rowTold};
+ghost use Rattle.rows.specs.Pair.{pairOf, pairTold};
 ghost use Rattle.rows.specs.Spread.{spreadOf, spreadTold};
-ghost use Rattle.capi.specs.Outs.{outs, testOuts, pairOuts, rowOuts, spreadOuts};
+ghost use Rattle.capi.specs.Outs.{tells};
 use crate::tell::told;
 use entry::Entry;
 use refusal::Verdict;
@@ -25,8 +27,8 @@ pub extern "C" fn seam_pair(
     place: &mut u64,
 ) -> u32
     ensures { λ r. ⌜
-        outs r (now (place .exit)) (now (found .exit) ∷ (now (joins .exit) ∷ [])) []
-        ≡ pairOuts (told (pairOf n w (now (labels .entry)) (now (counts .entry)) s t))
+        tells r (now (place .exit)) (now (found .exit) ∷ now (joins .exit) ∷ [])
+        ≡ pairTold (pairOf n w (now (labels .entry)) (now (counts .entry)) s t)
         ⌝ }
 {
     match rows::pair::pair(n, w, labels, counts, s, t) {
@@ -62,7 +64,8 @@ pub extern "C" fn seam_check_row(
     place: &mut u64,
 ) -> u32
     ensures { λ r. ⌜
-        outs r (now (place .exit)) [] [] ≡ testOuts (checkRow n w (now (labels .entry)) (now (counts .entry)) v)
+        tells r (now (place .exit)) []
+        ≡ verdictTold (checkRow n w (now (labels .entry)) (now (counts .entry)) v)
         ⌝ }
 {
     told(rows::check::check_row(n, w, labels, counts, v), place)
@@ -81,8 +84,8 @@ pub extern "C" fn seam_row(
     place: &mut u64,
 ) -> u32
     ensures { λ r. ⌜
-        outs r (now (place .exit)) (now (start .exit) ∷ (now (count .exit) ∷ [])) []
-        ≡ rowOuts n w (now (labels .entry)) (now (counts .entry)) v
+        tells r (now (place .exit)) (now (start .exit) ∷ now (count .exit) ∷ [])
+        ≡ rowTold n w (now (labels .entry)) (now (counts .entry)) v
         ⌝ }
 {
     match rows::check::check_row(n, w, labels, counts, v) {
@@ -112,8 +115,8 @@ pub extern "C" fn seam_spread(
     place: &mut u64,
 ) -> u32
     ensures { λ r. ⌜
-        outs r (now (place .exit)) (now (spread .exit) ∷ []) []
-        ≡ spreadOuts (spreadTold (spreadOf n w (now (labels .entry)) (now (counts .entry))))
+        tells r (now (place .exit)) (now (spread .exit) ∷ [])
+        ≡ spreadTold (spreadOf n w (now (labels .entry)) (now (counts .entry)))
         ⌝ }
 {
     match rows::spread::spread(n, w, labels, counts) {

@@ -8,7 +8,8 @@ use lib.ListN.{length, getD, take, drop, length-append, take-append-drop}
 use lib.Seq.{length-take-le, take-suc, getD-drop}
 use lib.Pow.{pow-pos, pow-add, split, high, low, field, shr-shr, mod-mod-pow, mod-pow-add}
 use lib.Arith.{digits-lt}
-use Rattle.fields.specs.Bits.{val, upTo, fieldAt, Field, bitLen, num, bytesOf, Bytes, Legal}
+use Rattle.fields.specs.Bits.{val, upTo, fieldAt, Field, bitLen, num, bytesOf, Bytes}
+use Rattle.fields.specs.Inner.{Legal}
 
 -- ---- the number that a byte string is
 

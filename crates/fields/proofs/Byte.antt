@@ -11,8 +11,8 @@ use lib.Pow.{pow-pos, pow-add, mod-pow-add}
 use lib.Arith.{digits-lt}
 use Rattle.basics.proofs.Laws.{drop-later}
 use Rattle.fields.specs.declared.put.Pen.{Pen}
-use Rattle.fields.specs.Bits.{Field, val, bitLen, num, Legal}
-use Rattle.fields.specs.Pen.{penBits, penNum, Ready, Put}
+use Rattle.fields.specs.Bits.{Field, val, bitLen, num}
+use Rattle.fields.specs.Inner.{Legal, penBits, penNum, Ready, Put}
 use Rattle.fields.proofs.Bits.{val-snoc, horner, num-split, num-lt}
 
 -- the first b bits of the room, with the last nb bits of `whole`, are the number x; beyond the bytes stored it is o₀

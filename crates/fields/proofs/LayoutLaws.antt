@@ -11,8 +11,9 @@ use lib.Seq.{drop-cons}
 use Rattle.basics.specs.Places.{sum}
 use Rattle.basics.proofs.Laws.{by-cases, less-one, sum-over}
 use Rattle.rows.specs.Rooms.{rowAt}
-use Rattle.fields.specs.Bits.{Field, bitLen, Legal, Reads}
-use Rattle.fields.specs.Layout.{fieldsFrom, headerFields, frameFields, orderFields, pairFields, rowFields, rowsFields, fileFields}
+use Rattle.fields.specs.Bits.{Field, bitLen}
+use Rattle.fields.specs.Inner.{Legal, Reads}
+use Rattle.fields.specs.Layout.{fieldsFrom, headerFields, frameFields, orderFields, entryFields, rowFields, rowsFields, fileFields}
 use Rattle.fields.proofs.Bits.{bitLen-append}
 use Rattle.fields.proofs.Packed.{legal-append, reads-append, reads-front, reads-back}
 
@@ -78,7 +79,7 @@ pub header-bits : (n k : ℕ) → bitLen (headerFields n k) ≡ 32
 unfolding bitLen headerFields
 header-bits n k = refl
 
-pub pair-bits : (e : ℕ) → bitLen (pairFields e) ≡ 24
+pub pair-bits : (e : ℕ) → bitLen (entryFields e) ≡ 24
 unfolding bitLen
 pair-bits e = refl
 
@@ -92,7 +93,7 @@ pub row-bits : (w : ℕ) (labels counts : List ℕ) (v : ℕ) → length (rowAt 
 unfolding bitLen rowFields
 row-bits w labels counts v h =
     let row : List ℕ = rowAt w labels counts v in
-    omega (arith, fields-take (λ i. pairFields (getD row i 0)) (λ i. 24 * i) (length row) (λ u l. omega arith) 0 (length row) (zero-add _))
+    omega (arith, fields-take (λ i. entryFields (getD row i 0)) (λ i. 24 * i) (length row) (λ u l. omega arith) 0 (length row) (zero-add _))
 
 -- the rows from v on
 pub rows-bits : (w : ℕ) (labels counts : List ℕ) (v left : ℕ) → v + left ≡ length counts →
@@ -110,10 +111,10 @@ rows-bits w labels counts v (suc left) e h =
     bitLen-append (rowFields w labels counts v) (rowsFields w labels counts (suc v) left) ∙ omega arith
 
 -- the whole layout
-pub file-takes : (n k w : ℕ) (O labels counts : List ℕ)
-    → bitLen (fileFields n k w O labels counts) ≡ 32 + 12 * length O + bitLen (rowsFields w labels counts 0 n)
+pub file-takes : (n w k : ℕ) (O labels counts : List ℕ)
+    → bitLen (fileFields n w k O labels counts) ≡ 32 + 12 * length O + bitLen (rowsFields w labels counts 0 n)
 unfolding fileFields
-file-takes n k w O labels counts =
+file-takes n w k O labels counts =
     let rows : List Field = rowsFields w labels counts 0 n in
     omega (
       arith,
@@ -124,8 +125,8 @@ file-takes n k w O labels counts =
     )
 
 -- rows that stand one behind the other, row v from `bit v` on: the layout ends at `bit n`
-module _ (n k w : ℕ) (O labels counts : List ℕ) (bit : ℕ → ℕ) where
+module _ (n w k : ℕ) (O labels counts : List ℕ) (bit : ℕ → ℕ) where
   pub file-ends : length O ≡ n → bit 0 ≡ 32 + 12 * n
       → ((u : ℕ) → u < n → bit u + bitLen (rowFields w labels counts u) ≡ bit (suc u))
-      → bitLen (fileFields n k w O labels counts) ≡ bit n
-  file-ends long first next = omega (arith, file-takes n k w O labels counts, fields-take (rowFields w labels counts) bit n next 0 n (zero-add n))
+      → bitLen (fileFields n w k O labels counts) ≡ bit n
+  file-ends long first next = omega (arith, file-takes n w k O labels counts, fields-take (rowFields w labels counts) bit n next 0 n (zero-add n))

@@ -7,7 +7,8 @@ use native.Mathlib.Omega.{arith}
 use native.Mathlib.Nat.{add-assoc, add-zero, zero-add, mod-eq-of-lt}
 use lib.ListN.{length}
 use lib.Pow.{pow-pos, shl-lt, shl-shr, high, low}
-use Rattle.fields.specs.Bits.{val, upTo, fieldAt, Field, bitLen, num, bytesOf, byteLen, padLen, packed, Bytes, Legal, Reads}
+use Rattle.fields.specs.Bits.{val, upTo, fieldAt, Field, bitLen, num, bytesOf, byteLen, padLen, packed, Bytes}
+use Rattle.fields.specs.Inner.{Legal, Reads}
 use Rattle.fields.proofs.Bits.{upTo-field, upTo-cut, upTo-zero, upTo-all, num-split, num-lt, bytesOf-length, bytesOf-val, val-bytes}
 
 -- ---- lengths

@@ -6,8 +6,8 @@ use native.Mathlib.Omega.{arith}
 use native.Mathlib.Nat.{add-zero}
 use lib.ListN.{length}
 use Rattle.basics.proofs.Laws.{drop-later}
-use Rattle.fields.specs.Bits.{Field, bitLen, num, Legal}
-use Rattle.fields.specs.Pen.{penBits, penNum, Ready, Left, Put}
+use Rattle.fields.specs.Bits.{Field, bitLen, num}
+use Rattle.fields.specs.Inner.{Legal, penBits, penNum, Ready, Left, Put}
 use Rattle.fields.specs.declared.put.Pen.{Pen}
 use Rattle.fields.proofs.Bits.{num-append, bitLen-append}
 

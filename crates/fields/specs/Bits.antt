@@ -54,13 +54,3 @@ padLen p = 8 * byteLen p - p
 -- fields packed into bytes
 unfoldable pub packed : List Field → List ℕ
 packed fs = bytesOf (byteLen (bitLen fs)) (num 0 fs * 2 ^ padLen (bitLen fs))
-
--- every value fits its width
-unfoldable pub Legal : List Field → Type 0
-Legal [] = Unit {0}
-Legal (f ∷ fs) = (f .value < 2 ^ f .width) × Legal fs
-
--- from bit p on the byte string holds these fields
-unfoldable pub Reads : List ℕ → ℕ → List Field → Type 0
-Reads s p [] = Unit {0}
-Reads s p (f ∷ fs) = (fieldAt s p (f .width) ≡ f .value) × Reads s (p + f .width) fs

@@ -1,5 +1,5 @@
 -- The field list of the index file: the one place that says which fields it has, in which order and how wide. n frames,
--- stop k, width w, order O, label room and count room.
+-- width w, stop k, order O, label room and count room.
 use Prim.Native.Nat.{ℕ, zero, suc, _+_, _-_, _*_, _/_}
 use mathlib.Core.List.{List, [], _∷_, _++_}
 use lib.ListN.{length, getD}
@@ -48,9 +48,13 @@ stopBit = framesBit + framesBits
 abbrev pub spareBit : ℕ
 spareBit = stopBit + stopBits
 
+-- where the header ends
+abbrev pub headerBits : ℕ
+headerBits = spareBit + spareBits
+
 -- of the order field of rank r; at that of n the rows begin
 abbrev pub orderBit : ℕ → ℕ
-orderBit r = spareBit + spareBits + frameBits * r
+orderBit r = headerBits + frameBits * r
 
 -- of the joins of an entry at bit p, and of entry i of a row at bit p
 abbrev pub joinsBit : ℕ → ℕ
@@ -61,9 +65,13 @@ entryBit p i = p + countBits + entryBits * i
 
 -- ---- the fields
 
+-- the version's one value
+abbrev pub versionValue : ℕ
+versionValue = 1
+
 -- the header of 32 bits
 unfoldable pub headerFields : ℕ → ℕ → List Field
-headerFields n k = field 1 versionBits ∷ field (n - 1) framesBits ∷ field k stopBits ∷ field 0 spareBits ∷ []
+headerFields n k = field versionValue versionBits ∷ field (n - 1) framesBits ∷ field k stopBits ∷ field 0 spareBits ∷ []
 
 -- the fields of `left` places from v on, one place behind the other
 unfoldable pub fieldsFrom : (ℕ → List Field) → ℕ → ℕ → List Field
@@ -78,15 +86,15 @@ abbrev pub orderFields : List ℕ → List Field
 orderFields O = fieldsFrom (λ r. frameFields (getD O r 0)) 0 (length O)
 
 -- the entries of a row: rank, joins
-abbrev pub pairFields : ℕ → List Field
-pairFields e = field (rankOf e) rankBits ∷ field (joinsOf e) joinsBits ∷ []
+abbrev pub entryFields : ℕ → List Field
+entryFields e = field (rankOf e) rankBits ∷ field (joinsOf e) joinsBits ∷ []
 
-abbrev pub entryFields : List ℕ → List Field
-entryFields row = fieldsFrom (λ i. pairFields (getD row i 0)) 0 (length row)
+abbrev pub entriesFields : List ℕ → List Field
+entriesFields row = fieldsFrom (λ i. entryFields (getD row i 0)) 0 (length row)
 
 -- a row: its count and its entries
 unfoldable pub rowFields : ℕ → List ℕ → List ℕ → ℕ → List Field
-rowFields w labels counts v = field (getD counts v 0) countBits ∷ entryFields (rowAt w labels counts v)
+rowFields w labels counts v = field (getD counts v 0) countBits ∷ entriesFields (rowAt w labels counts v)
 
 -- `left` rows from frame v on
 abbrev pub rowsFields : ℕ → List ℕ → List ℕ → ℕ → ℕ → List Field
@@ -94,12 +102,12 @@ rowsFields w labels counts v left = fieldsFrom (rowFields w labels counts) v lef
 
 -- the fields of the whole file
 unfoldable pub fileFields : ℕ → ℕ → ℕ → List ℕ → List ℕ → List ℕ → List Field
-fileFields n k w O labels counts = headerFields n k ++ (orderFields O ++ rowsFields w labels counts 0 n)
+fileFields n w k O labels counts = headerFields n k ++ (orderFields O ++ rowsFields w labels counts 0 n)
 
 -- the file's bytes
 unfoldable pub fileOf : ℕ → ℕ → ℕ → List ℕ → List ℕ → List ℕ → List ℕ
-fileOf n k w O labels counts = packed (fileFields n k w O labels counts)
+fileOf n w k O labels counts = packed (fileFields n w k O labels counts)
 
 -- with E entries the file has 4 + (21n + 24E) / 8 bytes, the quotient rounded up
 abbrev pub fileSize : ℕ → ℕ → ℕ
-fileSize n entries = 4 + (21 * n + 24 * entries + 7) / 8
+fileSize n entries = headerBits / 8 + ((frameBits + countBits) * n + entryBits * entries + 7) / 8

@@ -1,4 +1,3 @@
 pub mod Bits
 pub mod Layout
-pub mod Near
-pub mod Pen
+pub mod Inner

@@ -6,7 +6,7 @@ ghost use mathlib.Core.Path.{_≡_};
 ghost use lib.ListN.{length};
 ghost use Rattle.fields.specs.Bits.{fieldAt, byteLen};
 ghost use Rattle.fields.specs.Layout.{entryBits};
-ghost use Rattle.fields.specs.Near.{Near};
+ghost use Rattle.fields.specs.Inner.{Near};
 
 // The value of the field of `width` bits at bit p.
 pub fn get(bytes: &[u8], p: usize, width: usize) -> usize
@@ -43,7 +43,7 @@ pub fn four(bytes: &[u8], p: usize) -> usize
 }
 
 // The same wherever they are there.
-pub fn pair(bytes: &[u8], p: usize) -> usize
+pub fn both(bytes: &[u8], p: usize) -> usize
     requires { ⌜ (p < 2 ^ 30) × (byteLen (p + entryBits) ≤ length (now bytes)) ⌝ }
     ensures { λ r. ⌜ r ≡ fieldAt (now (bytes .entry)) p entryBits ⌝ }
 {

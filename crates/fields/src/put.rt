@@ -6,9 +6,9 @@ use entry::Entry;
 ghost use mathlib.Core.List.{[], _∷_};
 ghost use Prim.Native.Nat.{ℕ, _+_, _-_, _*_, _≤_, _<_};
 ghost use Rattle.fields.specs.Bits.{field};
-ghost use Rattle.fields.specs.Layout.{headerFields, orderFields, pairFields, entryFields, rowFields, rowsFields};
-ghost use Rattle.fields.specs.Pen.{Ready, Put, Closed};
-ghost use Rattle.rows.specs.Rooms.{RowLies};
+ghost use Rattle.fields.specs.Layout.{headerFields, orderFields, entryFields, entriesFields, rowFields, rowsFields};
+ghost use Rattle.fields.specs.Inner.{Ready, Put, Closed};
+ghost use Rattle.rows.specs.Inner.{RowLies};
 
 // A pen: `at` bytes are finished, and `nb` bits, below eight, of value `acc` are not yet a byte.
 pub struct Pen {
@@ -40,8 +40,8 @@ pub fn put(out: &mut [u8], pen: Pen, value: usize, width: usize) -> Pen
 
 // Puts one entry, its rank and its joins, as one number: three bytes are then whole, and as many bits wait as before.
 pub fn put_entry(out: &mut [u8], pen: Pen, e: Entry) -> Pen
-    requires { ⌜ Ready (now out) pen (pairFields e) ⌝ }
-    ensures { λ r. ⌜ Put (now (out .entry)) pen (pairFields e) (now (out .exit)) r ⌝ }
+    requires { ⌜ Ready (now out) pen (entryFields e) ⌝ }
+    ensures { λ r. ⌜ Put (now (out .entry)) pen (entryFields e) (now (out .exit)) r ⌝ }
 {
     let rank = entry::rank_of(e);
     let joins = entry::joins_of(e);
@@ -65,8 +65,10 @@ pub fn put_entry(out: &mut [u8], pen: Pen, e: Entry) -> Pen
 
 // Puts the entries of a row.
 pub fn put_entries(out: &mut [u8], pen: Pen, row: &[Entry]) -> Pen
-    requires { ⌜ Ready (now out) pen (entryFields (now row)) ⌝ }
-    ensures { λ r. ⌜ Put (now (out .entry)) pen (entryFields (now (row .entry))) (now (out .exit)) r ⌝ }
+    requires { ⌜ Ready (now out) pen (entriesFields (now row)) ⌝ }
+    ensures { λ r. ⌜
+        Put (now (out .entry)) pen (entriesFields (now (row .entry))) (now (out .exit)) r
+        ⌝ }
 {
     let mut tip = pen;
     let mut i = 0;
@@ -81,7 +83,9 @@ pub fn put_entries(out: &mut [u8], pen: Pen, row: &[Entry]) -> Pen
 // Puts the order: a field for each frame number.
 pub fn put_order(out: &mut [u8], pen: Pen, order: &[u32]) -> Pen
     requires { ⌜ Ready (now out) pen (orderFields (now order)) ⌝ }
-    ensures { λ r. ⌜ Put (now (out .entry)) pen (orderFields (now (order .entry))) (now (out .exit)) r ⌝ }
+    ensures { λ r. ⌜
+        Put (now (out .entry)) pen (orderFields (now (order .entry))) (now (out .exit)) r
+        ⌝ }
 {
     let mut tip = pen;
     let mut rank = 0;
@@ -98,7 +102,7 @@ pub fn put_header(out: &mut [u8], pen: Pen, n: usize, k: usize) -> Pen
     requires { ⌜ Ready (now out) pen (headerFields n k) × (1 ≤ n) ⌝ }
     ensures { λ r. ⌜ Put (now (out .entry)) pen (headerFields n k) (now (out .exit)) r ⌝ }
 {
-    let version = put(out, pen, 1, widths::VERSION_BITS);
+    let version = put(out, pen, widths::VERSION_VALUE, widths::VERSION_BITS);
     let frames = put(out, version, n - 1, widths::FRAMES_BITS);
     let stop = put(out, frames, k, widths::STOP_BITS);
     put(out, stop, 0, widths::SPARE_BITS)
@@ -113,8 +117,14 @@ pub fn put_row(
     counts: &[u32],
     v: usize,
 ) -> Pen
-    requires { ⌜ Ready (now out) pen (rowFields w (now labels) (now counts) v) × RowLies w (now labels) (now counts) v ⌝ }
-    ensures { λ r. ⌜ Put (now (out .entry)) pen (rowFields w (now (labels .entry)) (now (counts .entry)) v) (now (out .exit)) r ⌝ }
+    requires { ⌜
+        Ready (now out) pen (rowFields w (now labels) (now counts) v)
+        × RowLies w (now labels) (now counts) v
+        ⌝ }
+    ensures { λ r. ⌜
+        Put (now (out .entry)) pen (rowFields w (now (labels .entry)) (now (counts .entry)) v)
+        (now (out .exit)) r
+        ⌝ }
 {
     let count = counts[v] as usize;
     let from = v * w;
@@ -132,8 +142,14 @@ pub fn put_rows(
     labels: &[Entry],
     counts: &[u32],
 ) -> Pen
-    requires { ⌜ Ready (now out) pen (rowsFields w (now labels) (now counts) 0 n) × ((v : ℕ) → v < n → RowLies w (now labels) (now counts) v) ⌝ }
-    ensures { λ r. ⌜ Put (now (out .entry)) pen (rowsFields w (now (labels .entry)) (now (counts .entry)) 0 n) (now (out .exit)) r ⌝ }
+    requires { ⌜
+        Ready (now out) pen (rowsFields w (now labels) (now counts) 0 n)
+        × ((v : ℕ) → v < n → RowLies w (now labels) (now counts) v)
+        ⌝ }
+    ensures { λ r. ⌜
+        Put (now (out .entry)) pen (rowsFields w (now (labels .entry)) (now (counts .entry)) 0 n)
+        (now (out .exit)) r
+        ⌝ }
 {
     let mut tip = pen;
     let mut v = 0;

@@ -10,6 +10,9 @@ pub const STOP_BITS: usize = 13;
 
 pub const SPARE_BITS: usize = 3;
 
+// The version's one value.
+pub const VERSION_VALUE: usize = 1;
+
 // A frame number of the order; a row's count; an entry's rank and joins.
 pub const FRAME_BITS: usize = 12;
 
@@ -41,10 +44,10 @@ pub const EACH_FRAME_BITS: usize = FRAME_BITS + COUNT_BITS;
 // What an entry takes.
 pub const ENTRY_BITS: usize = RANK_BITS + JOINS_BITS;
 
-// How many values the joins have, and an entry.
+// How many values the joins have, and an entry: 2 to the power of their widths.
 pub const JOINS_VALUES: usize = 4096;
 
 pub const ENTRY_VALUES: usize = 16777216;
 
 // How many counts are legal: 0 to 256.
-pub const LEGAL_COUNTS: usize = 257;
+pub const LEGAL_COUNTS: usize = refusal::sizes::MOST_WIDTH + 1;

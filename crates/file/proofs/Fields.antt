@@ -16,7 +16,7 @@ use Rattle.refusal.specs.declared.Verdict.{Verdict}
 use Rattle.refusal.proofs.Laws.{test-fine, test-refused, test-held, then-fine, after-fine, after-refused}
 use Rattle.links.proofs.Order.{rank-again, rank-sound, sound-inside}
 use Rattle.fields.specs.Bits.{fieldAt, byteLen, padLen}
-use Rattle.file.specs.Reader.{shortTest, fieldTest, frameAt, orderFieldTest, orderFrom, entryTest, entriesFrom, rowTest, rowBit, rowsFrom, endTest, bodyTest}
+use Rattle.file.specs.Reader.{shortTest, fieldTest, frameAt, orderFieldTest, orderFrom, entryTest, entriesFrom, rowFieldsTest, rowBit, rowsFrom, endTest, bodyTest}
 use Rattle.file.proofs.Steps.{field-fine, field-refused, field-more, field-there}
 
 -- ---- the order
@@ -62,36 +62,36 @@ module _ (s : List ℕ) (n k p low : ℕ) where
 
 -- ---- one row
 
-module _ (s : List ℕ) (n k w v p : ℕ) where
+module _ (s : List ℕ) (n w k v p : ℕ) where
   pub row-count : {f : Refusal} → fieldTest s p 9 (ltb (fieldAt s p 9) 257) ≡ Verdict.Refused f
-      → rowTest s n k w v p ≡ Verdict.Refused f
-  unfolding rowTest
+      → rowFieldsTest s n w k v p ≡ Verdict.Refused f
+  unfolding rowFieldsTest
   row-count e = after-refused _ (field-more s p 9 _ _ (λ h. lt-ltb (fieldAt s p 9) 257 (omega (arith, leb-true (fieldAt s p 9) 256 h))) e)
 
   pub row-room : shortTest s p 9 ≡ Verdict.Fine → fieldAt s p 9 ≤ 256 → w < fieldAt s p 9
-      → rowTest s n k w v p ≡ Verdict.Refused (refusal ROOM v)
-  unfolding rowTest
+      → rowFieldsTest s n w k v p ≡ Verdict.Refused (refusal ROOM v)
+  unfolding rowFieldsTest
   row-room e h g = after-fine _ (field-fine s p 9 e (le-leb _ _ h)) ∙ after-refused _ (test-refused ROOM v (lt-leb _ _ g))
 
   pub row-entries : {count : ℕ} → shortTest s p 9 ≡ Verdict.Fine → count ≡ fieldAt s p 9 → count ≤ 256 → count ≤ w
-      → rowTest s n k w v p ≡ entriesFrom s n k (p + 9) 0 count
-  unfolding rowTest
+      → rowFieldsTest s n w k v p ≡ entriesFrom s n k (p + 9) 0 count
+  unfolding rowFieldsTest
   row-entries e q h g =
       after-fine _ (field-fine s p 9 e (le-leb (fieldAt s p 9) 256 (omega arith)))
       ∙ after-fine _ (test-fine ROOM v (le-leb (fieldAt s p 9) w (omega arith)))
       ∙ ap (entriesFrom s n k (p + 9) 0) (sym q)
 
   -- the count of a row that is fine
-  pub row-fits : rowTest s n k w v p ≡ Verdict.Fine → fieldAt s p 9 ≤ w
-  unfolding rowTest
+  pub row-fits : rowFieldsTest s n w k v p ≡ Verdict.Fine → fieldAt s p 9 ≤ w
+  unfolding rowFieldsTest
   row-fits e = leb-true _ _ (test-held _ ROOM v (then-fine _ _ (then-fine _ _ e .1) .0))
 
-  pub row-there : rowTest s n k w v p ≡ Verdict.Fine → byteLen (p + 9) ≤ length s
-  unfolding rowTest
+  pub row-there : rowFieldsTest s n w k v p ≡ Verdict.Fine → byteLen (p + 9) ≤ length s
+  unfolding rowFieldsTest
   row-there e = field-there s p 9 _ (then-fine _ _ e .0)
 
-  pub row-fine : rowTest s n k w v p ≡ Verdict.Fine → entriesFrom s n k (p + 9) 0 (fieldAt s p 9) ≡ Verdict.Fine
-  unfolding rowTest
+  pub row-fine : rowFieldsTest s n w k v p ≡ Verdict.Fine → entriesFrom s n k (p + 9) 0 (fieldAt s p 9) ≡ Verdict.Fine
+  unfolding rowFieldsTest
   row-fine e = then-fine _ _ (then-fine _ _ e .1) .1
 
 -- ---- the end
@@ -111,17 +111,17 @@ module _ (s : List ℕ) (p : ℕ) where
 
 -- ---- everything behind the header
 
-module _ (s : List ℕ) (n k w : ℕ) where
-  pub body-order : {f : Refusal} → orderFrom s n 0 n ≡ Verdict.Refused f → bodyTest s n k w ≡ Verdict.Refused f
+module _ (s : List ℕ) (n w k : ℕ) where
+  pub body-order : {f : Refusal} → orderFrom s n 0 n ≡ Verdict.Refused f → bodyTest s n w k ≡ Verdict.Refused f
   unfolding bodyTest
   body-order e = after-refused _ e
 
-  pub body-rows : {f : Refusal} → orderFrom s n 0 n ≡ Verdict.Fine → rowsFrom s n k w 0 n ≡ Verdict.Refused f
-      → bodyTest s n k w ≡ Verdict.Refused f
+  pub body-rows : {f : Refusal} → orderFrom s n 0 n ≡ Verdict.Fine → rowsFrom s n w k 0 n ≡ Verdict.Refused f
+      → bodyTest s n w k ≡ Verdict.Refused f
   unfolding bodyTest
   body-rows e g = after-fine _ e ∙ after-refused _ g
 
-  pub body-end : (p : ℕ) → orderFrom s n 0 n ≡ Verdict.Fine → rowsFrom s n k w 0 n ≡ Verdict.Fine
-      → p ≡ rowBit s n n → bodyTest s n k w ≡ endTest s p
+  pub body-end : (p : ℕ) → orderFrom s n 0 n ≡ Verdict.Fine → rowsFrom s n w k 0 n ≡ Verdict.Fine
+      → p ≡ rowBit s n n → bodyTest s n w k ≡ endTest s p
   unfolding bodyTest
   body-end p e g q = after-fine _ e ∙ after-fine _ g ∙ ap (endTest s) (sym q)

@@ -1,6 +1,6 @@
--- The header's tests, one field after another, and what an answer tells.
-use Prim.Native.Nat.{ℕ, _+_, _≤_, _<_}
-use mathlib.Core.Path.{_≡_, refl, sym, ap, ap₂, _∙_}
+-- The header's tests, one field after another.
+use Prim.Native.Nat.{ℕ, _≤_, _<_}
+use mathlib.Core.Path.{_≡_, refl, sym, ap, _∙_}
 use mathlib.Core.List.{List}
 use native.Mathlib.Omega.{arith}
 use lib.ListN.{length}
@@ -13,7 +13,7 @@ use Rattle.refusal.specs.declared.Verdict.{Verdict}
 use Rattle.refusal.proofs.Laws.{test-fine, test-refused, test-held, then-fine, after-fine, after-refused}
 use Rattle.file.specs.declared.Opened.{Opened}
 use Rattle.fields.specs.Bits.{fieldAt, byteLen}
-use Rattle.file.specs.Reader.{shortTest, fieldTest, framesOf, stopOf, headerTest, opened, told, Told}
+use Rattle.file.specs.Reader.{shortTest, fieldTest, framesOf, stopOf, headerTest, opened}
 use Rattle.fields.proofs.Bits.{field-lt}
 use Rattle.file.proofs.Steps.{short-fine, short-refused, field-fine, field-refused, field-short, field-there, field-legal}
 
@@ -26,17 +26,6 @@ opened-fine n k e = sym (ap (λ (v : Verdict). opened v n k) e)
 pub opened-refused : {v : Verdict} {r : Refusal} (n k : ℕ) → v ≡ Verdict.Refused r → Opened.Refused r ≡ opened v n k
 unfolding opened
 opened-refused n k e = sym (ap (λ (v : Verdict). opened v n k) e)
-
--- the paper's numbers tell the answers apart, where an index has frames and a refusal a number
-pub told-apart : (a b : Opened) → told a ≡ told b → 0 < told a .number + told a .frames → a ≡ b
-unfolding told
-told-apart (Opened.Index n k) (Opened.Index m l) e h =
-    ap₂ Opened.Index (ap (λ (t : Told). t .frames) e) (ap (λ (t : Told). t .stop) e)
-told-apart (Opened.Index n k) (Opened.Refused r) e h = absurd (omega (arith, ap (λ (t : Told). t .frames) e))
-told-apart (Opened.Refused r) (Opened.Index n k) e h =
-    absurd (omega (arith, ap (λ (t : Told). t .number) e, ap (λ (t : Told). t .frames) e))
-told-apart (Opened.Refused r) (Opened.Refused q) e h =
-    λ i. Opened.Refused (record { number = e i .number; place = e i .place })
 
 -- an index is told by n and k
 pub index-is : (v : Verdict) {n k : ℕ} (m l : ℕ) → Opened.Index n k ≡ opened v m l → (v ≡ Verdict.Fine) × (n ≡ m) × (k ≡ l)

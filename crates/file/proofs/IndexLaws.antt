@@ -12,12 +12,12 @@ use Rattle.fields.specs.Bits.{fieldAt, bitLen}
 use Rattle.fields.specs.Layout.{rowFields}
 use Rattle.fields.proofs.LayoutLaws.{row-bits}
 use Rattle.file.specs.Index.{lengthsFit}
-use Rattle.file.specs.Reader.{behind}
+use Rattle.file.specs.Reader.{bitBehind}
 
 -- the next row stands behind one whose count was read
 pub row-behind : (s : List ℕ) (p w : ℕ) (labels counts : List ℕ) (v : ℕ) → length (rowAt w labels counts v) ≡ getD counts v 0
-    → fieldAt s p 9 ≡ getD counts v 0 → p + bitLen (rowFields w labels counts v) ≡ behind s p
-unfolding behind
+    → fieldAt s p 9 ≡ getD counts v 0 → p + bitLen (rowFields w labels counts v) ≡ bitBehind s p
+unfolding bitBehind
 row-behind s p w labels counts v long count = omega (arith, row-bits w labels counts v long)
 
 module _ (n w order labels counts : ℕ) where

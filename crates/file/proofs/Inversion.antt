@@ -10,7 +10,7 @@ use Rattle.basics.proofs.Laws.{by-cases, both-true}
 use Rattle.refusal.specs.declared.Verdict.{Verdict}
 use Rattle.refusal.proofs.Laws.{then-fine, tests-each}
 use Rattle.fields.specs.Bits.{fieldAt, byteLen}
-use Rattle.file.specs.Reader.{orderFieldTest, orderFrom, entryTest, entriesFrom, rowTest, behind, rowsFrom, rowBit}
+use Rattle.file.specs.Reader.{orderFieldTest, orderFrom, entryTest, entriesFrom, rowFieldsTest, bitBehind, rowsFrom, rowBit}
 use Rattle.fields.proofs.Bits.{field-lt}
 use Rattle.file.proofs.Steps.{field-there, field-legal}
 use Rattle.file.proofs.Fields.{row-fine, row-there}
@@ -51,23 +51,23 @@ module _ (s : List ℕ) (n k : ℕ) where
 -- ---- the rows
 
 -- the bytes reach to the end of a row that is fine
-pub row-reaches : (s : List ℕ) (n k w v p : ℕ) → rowTest s n k w v p ≡ Verdict.Fine → byteLen (behind s p) ≤ length s
-unfolding behind
-row-reaches s n k w v p e =
-    entries-there s n k (p + 9) (fieldAt s p 9) (row-there s n k w v p e) (row-fine s n k w v p e)
+pub row-reaches : (s : List ℕ) (n w k v p : ℕ) → rowFieldsTest s n w k v p ≡ Verdict.Fine → byteLen (bitBehind s p) ≤ length s
+unfolding bitBehind
+row-reaches s n w k v p e =
+    entries-there s n k (p + 9) (fieldAt s p 9) (row-there s n w k v p e) (row-fine s n w k v p e)
 
 -- rows are short enough
 pub bit-near : (s : List ℕ) (n v : ℕ) → rowBit s n v ≤ 32 + 12 * n + 12273 * v
-unfolding rowBit behind
+unfolding rowBit bitBehind
 bit-near s n zero = omega arith
 bit-near s n (suc v) = omega (arith, bit-near s n v, field-lt s (rowBit s n v) 9)
 
 -- the bytes reach to the end of the order and of each row
-module _ (s : List ℕ) (n k w : ℕ) (fine : rowsFrom s n k w 0 n ≡ Verdict.Fine) where
+module _ (s : List ℕ) (n w k : ℕ) (fine : rowsFrom s n w k 0 n ≡ Verdict.Fine) where
   pub bits-there : 4 ≤ length s → orderFrom s n 0 n ≡ Verdict.Fine → (v : ℕ) → v ≤ n → byteLen (rowBit s n v) ≤ length s
   unfolding rowBit byteLen
   bits-there long ordered zero h =
       by-cases (ℕ-discrete n 0)
       (λ (q : n ≡ 0). omega arith)
       (λ q. omega (arith, order-there s n (n - 1) (tests-each _ n ordered (n - 1) (omega arith))))
-  bits-there long ordered (suc v) h = row-reaches s n k w v (rowBit s n v) (tests-each _ n fine v (omega arith))
+  bits-there long ordered (suc v) h = row-reaches s n w k v (rowBit s n v) (tests-each _ n fine v (omega arith))

@@ -7,34 +7,35 @@ use native.Mathlib.Nat.{zero-add}
 use lib.ListN.{length, getD}
 use Rattle.entry.specs.Entry.{rankOf, joinsOf}
 use Rattle.rows.specs.Rooms.{rowAt}
-use Rattle.fields.specs.Bits.{Field, fieldAt, bitLen, byteLen, padLen, Reads}
-use Rattle.fields.specs.Layout.{headerFields, frameFields, orderFields, pairFields, entryFields, rowFields, rowsFields, fileFields, fileOf}
-use Rattle.file.specs.Reader.{framesOf, stopOf, frameAt, behind, rowBit, countAt}
-use Rattle.file.specs.Writer.{Fit}
+use Rattle.fields.specs.Bits.{Field, fieldAt, bitLen, byteLen, padLen}
+use Rattle.fields.specs.Inner.{Reads}
+use Rattle.fields.specs.Layout.{headerFields, frameFields, orderFields, entryFields, entriesFields, rowFields, rowsFields, fileFields, fileOf}
+use Rattle.file.specs.Reader.{framesOf, stopOf, frameAt, bitBehind, rowBit, countAt}
+use Rattle.file.specs.Inner.{Fit}
 use Rattle.fields.proofs.Packed.{reads-front, reads-back, reads-packed, packed-length, packed-fill}
 use Rattle.fields.proofs.LayoutLaws.{fields-take, fields-found, order-bits, file-ends}
 use Rattle.file.proofs.IndexLaws.{row-behind}
 use Rattle.file.proofs.Fit.{fit-legal, fit-length}
 
 -- a byte string that holds the file of an index
-pub record Holds (s : List ℕ) (n k w : ℕ) (O labels counts : List ℕ) : Type 0 where
-  pub fits : Fit n k w O labels counts
-  pub reads : Reads s 0 (fileFields n k w O labels counts)
-  pub long : length s ≡ byteLen (bitLen (fileFields n k w O labels counts))
-  pub fill : fieldAt s (bitLen (fileFields n k w O labels counts)) (padLen (bitLen (fileFields n k w O labels counts))) ≡ 0
+pub record Holds (s : List ℕ) (n w k : ℕ) (O labels counts : List ℕ) : Type 0 where
+  pub fits : Fit n w k O labels counts
+  pub reads : Reads s 0 (fileFields n w k O labels counts)
+  pub long : length s ≡ byteLen (bitLen (fileFields n w k O labels counts))
+  pub fill : fieldAt s (bitLen (fileFields n w k O labels counts)) (padLen (bitLen (fileFields n w k O labels counts))) ≡ 0
 
-pub file-holds : (n k w : ℕ) (O labels counts : List ℕ) → Fit n k w O labels counts → Holds (fileOf n k w O labels counts) n k w O labels counts
+pub file-holds : (n w k : ℕ) (O labels counts : List ℕ) → Fit n w k O labels counts → Holds (fileOf n w k O labels counts) n w k O labels counts
 unfolding fileOf
-file-holds n k w O labels counts f =
-    let fs : List Field = fileFields n k w O labels counts in
+file-holds n w k O labels counts f =
+    let fs : List Field = fileFields n w k O labels counts in
     record {
       fits = f;
-      reads = reads-packed fs (fit-legal n k w O labels counts f);
+      reads = reads-packed fs (fit-legal n w k O labels counts f);
       long = packed-length fs;
-      fill = packed-fill fs (fit-legal n k w O labels counts f);
+      fill = packed-fill fs (fit-legal n w k O labels counts f);
     }
 
-module _ {s : List ℕ} {n k w : ℕ} {O labels counts : List ℕ} (h : Holds s n k w O labels counts) where
+module _ {s : List ℕ} {n w k : ℕ} {O labels counts : List ℕ} (h : Holds s n w k O labels counts) where
   -- ---- the header
 
   header-part : Reads s 0 (headerFields n k)
@@ -83,7 +84,7 @@ module _ {s : List ℕ} {n k w : ℕ} {O labels counts : List ℕ} (h : Holds s 
       let first : 32 + bitLen (orderFields O) ≡ 32 + 12 * n = omega (arith, order-bits O) in
       let rows = reads-back s 32 (orderFields O) (rowsFields w labels counts 0 n) body-part in
       fields-found (rowFields w labels counts) (rowBit s n) n s
-      (λ u l r. row-behind s (rowBit s n u) w labels counts u (fit-length n k w O labels counts (h .fits) u l) (r .0)) 0 n (zero-add n)
+      (λ u l r. row-behind s (rowBit s n u) w labels counts u (fit-length n w k O labels counts (h .fits) u l) (r .0)) 0 n (zero-add n)
       (subst (λ (p : ℕ). Reads s p (rowsFields w labels counts 0 n)) first rows) v (omega arith) b
 
   pub count-found : (v : ℕ) → v < n → countAt s n v ≡ getD counts v 0
@@ -95,35 +96,35 @@ module _ {s : List ℕ} {n k w : ℕ} {O labels counts : List ℕ} (h : Holds s 
       × (fieldAt s (rowBit s n v + 9 + 24 * i + 12) 12 ≡ joinsOf (getD (rowAt w labels counts v) i 0))
   unfolding Reads bitLen rowFields
   entry-found v b i c =
-      let long : length (rowAt w labels counts v) ≡ getD counts v 0 = fit-length n k w O labels counts (h .fits) v b in
+      let long : length (rowAt w labels counts v) ≡ getD counts v 0 = fit-length n w k O labels counts (h .fits) v b in
       let row : List ℕ = rowAt w labels counts v in
       let p : ℕ = rowBit s n v + 9 in
       let first : p ≡ p + 24 * 0 = omega arith in
       let (rank, joins) =
-      fields-found (λ j. pairFields (getD row j 0)) (λ j. p + 24 * j) (length row) s (λ u _ _. omega arith) 0 (length row) (zero-add _)
-      (subst (λ (q : ℕ). Reads s q (entryFields row)) first (row-found v b .1)) i (omega arith) (omega arith) in
+      fields-found (λ j. entryFields (getD row j 0)) (λ j. p + 24 * j) (length row) s (λ u _ _. omega arith) 0 (length row) (zero-add _)
+      (subst (λ (q : ℕ). Reads s q (entriesFields row)) first (row-found v b .1)) i (omega arith) (omega arith) in
       (rank, joins .0)
 
   -- ---- where they stand: the bits of the rows run on to the end of the layout
 
   pub next-bit : (v : ℕ) → v < n → rowBit s n (suc v) ≡ rowBit s n v + 9 + 24 * getD counts v 0
-  unfolding rowBit behind countAt
+  unfolding rowBit bitBehind countAt
   next-bit v b = ap (λ (c : ℕ). rowBit s n v + 9 + 24 * c) (count-found v b)
 
   row-takes : (v : ℕ) → v < n → rowBit s n v + bitLen (rowFields w labels counts v) ≡ rowBit s n (suc v)
   unfolding rowBit countAt
-  row-takes v b = row-behind s (rowBit s n v) w labels counts v (fit-length n k w O labels counts (h .fits) v b) (count-found v b)
+  row-takes v b = row-behind s (rowBit s n v) w labels counts v (fit-length n w k O labels counts (h .fits) v b) (count-found v b)
 
   -- the last row ends where the layout ends
-  pub last-end : rowBit s n n ≡ bitLen (fileFields n k w O labels counts)
+  pub last-end : rowBit s n n ≡ bitLen (fileFields n w k O labels counts)
   unfolding rowBit
-  last-end = sym (file-ends n k w O labels counts (rowBit s n) (h .fits .long) refl row-takes)
+  last-end = sym (file-ends n w k O labels counts (rowBit s n) (h .fits .long) refl row-takes)
 
   -- row v and the order end inside the layout
-  pub row-end : (v : ℕ) → v < n → rowBit s n v + 9 + 24 * getD counts v 0 ≤ bitLen (fileFields n k w O labels counts)
+  pub row-end : (v : ℕ) → v < n → rowBit s n v + 9 + 24 * getD counts v 0 ≤ bitLen (fileFields n w k O labels counts)
   row-end v b =
       omega (arith, next-bit v b, last-end, fields-take (rowFields w labels counts) (rowBit s n) n row-takes (suc v) (n - suc v) (omega arith))
 
-  pub order-fits : 32 + 12 * n ≤ bitLen (fileFields n k w O labels counts)
+  pub order-fits : 32 + 12 * n ≤ bitLen (fileFields n w k O labels counts)
   unfolding rowBit
   order-fits = omega (arith, last-end, fields-take (rowFields w labels counts) (rowBit s n) n row-takes 0 n (omega arith))

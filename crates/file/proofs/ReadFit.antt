@@ -16,13 +16,14 @@ use Rattle.refusal.specs.declared.Verdict.{Verdict}
 use Rattle.refusal.proofs.Laws.{tests-each, none-lowest}
 use Rattle.links.specs.Order.{faultyRank, orderTest}
 use Rattle.entry.specs.Entry.{rankOf, joinsOf}
-use Rattle.rows.specs.Rooms.{Rooms, rowAt, rowsTest}
+use Rattle.rows.specs.Inner.{Rooms}
+use Rattle.rows.specs.Rooms.{rowAt, rowsTest}
 use Rattle.entry.proofs.Laws.{rank-entry, joins-entry}
 use Rattle.rows.proofs.Laws.{Sound, sound-row}
 use Rattle.rows.proofs.RoomLaws.{length-row, sound-all}
 use Rattle.fields.specs.Bits.{fieldAt}
 use Rattle.file.specs.Reader.{framesOf, stopOf, frameAt, orderFieldTest, entryTest, lowAt, rowBit, countAt, entryAt, labelAt, orderRead, labelsRead, countsRead}
-use Rattle.file.specs.Writer.{Fit}
+use Rattle.file.specs.Inner.{Fit}
 use Rattle.fields.proofs.Bits.{field-lt}
 use Rattle.file.proofs.Steps.{field-legal}
 use Rattle.file.proofs.Fields.{row-fine}
@@ -113,10 +114,10 @@ module _ {s : List ℕ} {w order labels counts : ℕ} (r : Readable s w order la
   unfolding countAt
   entry-fine v h i c =
       let n : ℕ = framesOf s in
-      tests-each _ _ (row-fine s n (stopOf s) w v (rowBit s n v) (tests-each _ n (r .rowed) v h)) i (omega (arith, count-is v h))
+      tests-each _ _ (row-fine s n w (stopOf s) v (rowBit s n v) (tests-each _ n (r .rowed) v h)) i (omega (arith, count-is v h))
 
   row-sound : (v : ℕ) → v < framesOf s
-      → Sound (stopOf s) (framesOf s) (rowRead s w v)
+      → Sound (framesOf s) (stopOf s) (rowRead s w v)
       (countRead s v)
   unfolding lowAt
   row-sound v h =
@@ -137,10 +138,10 @@ module _ {s : List ℕ} {w order labels counts : ℕ} (r : Readable s w order la
             );
       }
 
-  rows-sound : rowsTest (stopOf s) (framesOf s) w (labelsRead s (framesOf s) w) (countsRead s (framesOf s)) ≡ Verdict.Fine
-  rows-sound = sound-all _ _ w _ _ (λ v h. sound-row _ _ w _ _ v (row-fits v h) (row-sound v h))
+  rows-sound : rowsTest (framesOf s) w (stopOf s) (labelsRead s (framesOf s) w) (countsRead s (framesOf s)) ≡ Verdict.Fine
+  rows-sound = sound-all _ w _ _ _ (λ v h. sound-row _ w _ _ _ v (row-fits v h) (row-sound v h))
 
-  pub read-fit : Fit (framesOf s) (stopOf s) w (orderRead s (framesOf s)) (labelsRead s (framesOf s) w) (countsRead s (framesOf s))
+  pub read-fit : Fit (framesOf s) w (stopOf s) (orderRead s (framesOf s)) (labelsRead s (framesOf s) w) (countsRead s (framesOf s))
   unfolding orderRead
   read-fit =
       record {

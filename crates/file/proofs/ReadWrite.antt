@@ -16,11 +16,13 @@ use Rattle.refusal.specs.declared.Verdict.{Verdict}
 use Rattle.refusal.proofs.Laws.{test-held, then-fine, vcase}
 use Rattle.file.specs.declared.Opened.{Opened}
 use Rattle.file.specs.declared.Written.{Written}
-use Rattle.fields.specs.Bits.{fieldAt, Field, bitLen, byteLen, padLen, Bytes, Reads}
-use Rattle.fields.specs.Layout.{headerFields, orderFields, pairFields, entryFields, rowFields, rowsFields, fileFields, fileOf}
-use Rattle.file.specs.Index.{stored, Same}
-use Rattle.file.specs.Reader.{framesOf, stopOf, frameAt, endTest, readTest, rowBit, countAt, orderRead, labelsRead, countsRead, Outcome, outcome, indexRead, filledIn, readOf, told}
-use Rattle.file.specs.Writer.{Fit, wrote, writeOf}
+use Rattle.fields.specs.Bits.{fieldAt, Field, bitLen, byteLen, padLen, Bytes}
+use Rattle.fields.specs.Inner.{Reads}
+use Rattle.fields.specs.Layout.{headerFields, orderFields, entryFields, entriesFields, rowFields, rowsFields, fileFields, fileOf}
+use Rattle.file.specs.Index.{stored, SameIndex}
+use Rattle.file.specs.Reader.{framesOf, stopOf, frameAt, endTest, readTest, rowBit, countAt, orderRead, labelsRead, countsRead, ReadOutcome, readOutcome, indexRead, filledIn, readOf, openedTold}
+use Rattle.file.specs.Inner.{Fit}
+use Rattle.file.specs.Writer.{writeOutcome, writeOf}
 use Rattle.fields.proofs.Packed.{packed-reads, reads-append}
 use Rattle.fields.proofs.LayoutLaws.{fields-reads, header-bits, order-bits, file-ends}
 use Rattle.file.proofs.IndexLaws.{row-behind}
@@ -43,10 +45,10 @@ abbrev rowsFieldsRead : List ℕ → ℕ → ℕ → ℕ → List Field
 rowsFieldsRead s w v left = rowsFields w (labelsRead s (framesOf s) w) (countsRead s (framesOf s)) v left
 
 abbrev fieldsRead : List ℕ → ℕ → List Field
-fieldsRead s w = fileFields (framesOf s) (stopOf s) w (orderRead s (framesOf s)) (labelsRead s (framesOf s) w) (countsRead s (framesOf s))
+fieldsRead s w = fileFields (framesOf s) w (stopOf s) (orderRead s (framesOf s)) (labelsRead s (framesOf s) w) (countsRead s (framesOf s))
 
 abbrev pub fileRead : List ℕ → ℕ → List ℕ
-fileRead s w = fileOf (framesOf s) (stopOf s) w (orderRead s (framesOf s)) (labelsRead s (framesOf s) w) (countsRead s (framesOf s))
+fileRead s w = fileOf (framesOf s) w (stopOf s) (orderRead s (framesOf s)) (labelsRead s (framesOf s) w) (countsRead s (framesOf s))
 
 module _ {s : List ℕ} {w order labels counts : ℕ} (r : Readable s w order labels counts) where
   header-there : Reads s 0 (headerFields (framesOf s) (stopOf s))
@@ -68,11 +70,11 @@ module _ {s : List ℕ} {w order labels counts : ℕ} (r : Readable s w order la
       let p : ℕ = rowBit s (framesOf s) v + 9 in
       let first : p + 24 * 0 ≡ p = omega arith in
       let entries =
-      fields-reads (λ i. pairFields (getD (rowRead s w v) i 0)) (λ i. p + 24 * i) (length (rowRead s w v)) s (λ u l. omega arith)
+      fields-reads (λ i. entryFields (getD (rowRead s w v) i 0)) (λ i. p + 24 * i) (length (rowRead s w v)) s (λ u l. omega arith)
       (λ i c.
       let b : i < countRead s v = omega (arith, row-long r v h) in
       (sym (rank-is r v h i b), (sym (joins-is r v h i b), tt))) 0 _ (zero-add _) in
-      (sym (count-is r v h), subst (λ (q : ℕ). Reads s q (entryFields (rowRead s w v))) first entries)
+      (sym (count-is r v h), subst (λ (q : ℕ). Reads s q (entriesFields (rowRead s w v))) first entries)
 
   -- row v takes the bits up to the next row
   row-takes : (v : ℕ) → v < framesOf s
@@ -102,7 +104,7 @@ module _ {s : List ℕ} {w order labels counts : ℕ} (r : Readable s w order la
   file-takes : bitLen (fieldsRead s w) ≡ rowBit s (framesOf s) (framesOf s)
   unfolding rowBit orderRead
   file-takes =
-      file-ends _ _ w _ _ _ (rowBit s (framesOf s)) (length-table (framesOf s) (frameAt s)) refl row-takes
+      file-ends _ w _ _ _ _ (rowBit s (framesOf s)) (length-table (framesOf s) (frameAt s)) refl row-takes
 
   -- no byte more, and zero bits in the last one
   end-length : length s ≡ byteLen (rowBit s (framesOf s) (framesOf s))
@@ -110,7 +112,7 @@ module _ {s : List ℕ} {w order labels counts : ℕ} (r : Readable s w order la
   end-length =
       let n : ℕ = framesOf s in
       let most : length s ≤ byteLen (rowBit s n n) = leb-true _ _ (test-held _ LONG _ (then-fine _ _ (r .ended) .1)) in
-      omega (arith, bits-there s n (stopOf s) w (r .rowed) (r .head .long) (r .ordered) n (omega arith))
+      omega (arith, bits-there s n w (stopOf s) (r .rowed) (r .head .long) (r .ordered) n (omega arith))
 
   end-fill : fieldAt s (rowBit s (framesOf s) (framesOf s)) (padLen (rowBit s (framesOf s) (framesOf s))) ≡ 0
   unfolding endTest
@@ -128,58 +130,58 @@ module _ {s : List ℕ} {w order labels counts : ℕ} (r : Readable s w order la
 -- ---- the round trip: what the reader handed over, handed to the writer
 
 module _ (s : List ℕ) (w : ℕ) (order labels counts : List ℕ) (n k : ℕ) (order₂ labels₂ counts₂ : List ℕ)
-    (given : outcome (Opened.Index n k) order₂ labels₂ counts₂ ≡ readOf s w order labels counts) where
+    (given : readOutcome (Opened.Index n k) order₂ labels₂ counts₂ ≡ readOf s w order labels counts) where
   read-fine : readTest s w (length order) (length labels) (length counts) ≡ Verdict.Fine
   unfolding readOf
-  read-fine = index-is _ _ _ (ap (λ (x : Outcome). x .answer) given ∙ answer-is _ s w order labels counts) .0
+  read-fine = index-is _ _ _ (ap (λ (x : ReadOutcome). x .answer) given ∙ answer-is _ s w order labels counts) .0
 
-  read-parts : outcome (Opened.Index n k) order₂ labels₂ counts₂ ≡ indexRead s w
+  read-parts : readOutcome (Opened.Index n k) order₂ labels₂ counts₂ ≡ indexRead s w
   unfolding readOf filledIn
   read-parts = given ∙ ap (λ (v : Verdict). filledIn v s w order labels counts) read-fine
 
   -- an index that is read is one that the writer takes
-  pub read-takes : Fit n k w order₂ labels₂ counts₂
-  unfolding told
+  pub read-takes : Fit n w k order₂ labels₂ counts₂
+  unfolding openedTold
   read-takes =
-      subst (λ (x : Outcome). Fit (told (x .answer) .frames) (told (x .answer) .stop) w (x .order) (x .labels) (x .counts)) (sym read-parts)
+      subst (λ (x : ReadOutcome). Fit (getD (x .told .values) 0 0) w (getD (x .told .values) 1 0) (x .order) (x .labels) (x .counts)) (sym read-parts)
       (read-fit (readable s w _ _ _ read-fine))
 
   -- and its file is the file that was read
-  pub read-then-write : Bytes s → fileOf n k w order₂ labels₂ counts₂ ≡ s
-  unfolding told
+  pub read-then-write : Bytes s → fileOf n w k order₂ labels₂ counts₂ ≡ s
+  unfolding openedTold
   read-then-write bytes =
-      ap (λ (x : Outcome). fileOf (told (x .answer) .frames) (told (x .answer) .stop) w (x .order) (x .labels) (x .counts)) read-parts
+      ap (λ (x : ReadOutcome). fileOf (getD (x .told .values) 0 0) w (getD (x .told .values) 1 0) (x .order) (x .labels) (x .counts)) read-parts
       ∙ read-file (readable s w _ _ _ read-fine) bytes
 
   -- so the writer fills the very bytes
   pub read-written : Bytes s → (out : List ℕ) (start filled : ℕ) (room : List ℕ)
-      → wrote (Written.Bytes filled) room ≡ writeOf n k w order₂ labels₂ counts₂ out start → take filled (drop start room) ≡ s
+      → writeOutcome (Written.Bytes filled) room ≡ writeOf n w k order₂ labels₂ counts₂ out start → take filled (drop start room) ≡ s
   read-written bytes out start filled room e =
-      done-file n k w order₂ labels₂ counts₂ out start filled room (write-done n k w order₂ labels₂ counts₂ out start filled room e) ∙ read-then-write bytes
+      done-file n w k order₂ labels₂ counts₂ out start filled room (write-done n w k order₂ labels₂ counts₂ out start filled room e) ∙ read-then-write bytes
 
   -- and no other index has this file
-  pub one-index : (m j x : ℕ) (order₃ labels₃ counts₃ : List ℕ) → Fit m j x order₃ labels₃ counts₃ → fileOf m j x order₃ labels₃ counts₃ ≡ s
-      → Same (stored m j x order₃ labels₃ counts₃) (stored n k w order₂ labels₂ counts₂)
-  unfolding told
+  pub one-index : (m j x : ℕ) (order₃ labels₃ counts₃ : List ℕ) → Fit m x j order₃ labels₃ counts₃ → fileOf m x j order₃ labels₃ counts₃ ≡ s
+      → SameIndex (stored m x j order₃ labels₃ counts₃) (stored n w k order₂ labels₂ counts₂)
+  unfolding openedTold
   one-index m j x order₃ labels₃ counts₃ f e =
       let r : Readable s w (length order) (length labels) (length counts) = readable s w _ _ _ read-fine in
-      let h : Holds s m j x order₃ labels₃ counts₃ = subst (λ (t : List ℕ). Holds t m j x order₃ labels₃ counts₃) e (file-holds m j x order₃ labels₃ counts₃ f) in
+      let h : Holds s m x j order₃ labels₃ counts₃ = subst (λ (t : List ℕ). Holds t m x j order₃ labels₃ counts₃) e (file-holds m x j order₃ labels₃ counts₃ f) in
       let frames : framesOf s ≡ m = frames-found h in
       let wide : (v : ℕ) → v < m → getD counts₃ v 0 ≤ w =
       λ v b.
       subst (λ (y : ℕ). y ≤ w) (ap (λ (y : ℕ). countAt s y v) frames ∙ count-found h v b) (count-fits r v (omega arith)) in
-      let all : outcome (Opened.Index n k) order₂ labels₂ counts₂ ≡ outcome (Opened.Index m j) order₃ (labelsRead s m w) counts₃ =
+      let all : readOutcome (Opened.Index n k) order₂ labels₂ counts₂ ≡ readOutcome (Opened.Index m j) order₃ (labelsRead s m w) counts₃ =
       given
       ∙ read-back h w wide (r .some) (r .wide) order labels counts (r .orders ∙ frames)
       (r .labelled ∙ ap (λ (y : ℕ). y * w) frames) (r .counted ∙ frames) in
       subst
-      (λ (t : Outcome).
-      Same (stored m j x order₃ labels₃ counts₃) (stored (told (t .answer) .frames) (told (t .answer) .stop) w (t .order) (t .labels) (t .counts)))
+      (λ (t : ReadOutcome).
+      SameIndex (stored m x j order₃ labels₃ counts₃) (stored (getD (t .told .values) 0 0) w (getD (t .told .values) 1 0) (t .order) (t .labels) (t .counts)))
       (sym all) (same h w wide)
 
 -- a byte string is refused, or it is the file of the index read
 pub refused-or-file : (s : List ℕ) → Bytes s → (w : ℕ) (order labels counts : List ℕ)
-    → ((r : Refusal) × (readOf s w order labels counts ≡ outcome (Opened.Refused r) order labels counts))
+    → ((r : Refusal) × (readOf s w order labels counts ≡ readOutcome (Opened.Refused r) order labels counts))
     ⊎ ((fileRead s w ≡ s)
     × (readOf s w order labels counts
     ≡ indexRead s w))

@@ -15,8 +15,8 @@ use Rattle.refusal.proofs.Laws.{test-fine, test-refused, test-held, then-fine, 
 use Rattle.refusal.proofs.SizeLaws.{width-held}
 use Rattle.file.specs.declared.Opened.{Opened}
 use Rattle.file.specs.Index.{lengthsFit}
-use Rattle.file.specs.Reader.{framesOf, stopOf, headerTest, frameAt, orderFrom, rowsFrom, endTest, bodyTest, readTest, rowBit, countAt, labelAt, orderRead, labelsRead, countsRead, outcome, filledIn, readOf}
-use Rattle.file.specs.Stores.{filled, Ordered, Rowed}
+use Rattle.file.specs.Reader.{framesOf, stopOf, headerTest, frameAt, orderFrom, rowsFrom, endTest, bodyTest, readTest, rowBit, countAt, labelAt, orderRead, labelsRead, countsRead, readOutcome, filledIn, readOf}
+use Rattle.file.specs.Inner.{filled, OrderThere, RowsThere}
 use Rattle.file.proofs.Fields.{row-fits}
 use Rattle.file.proofs.Heading.{Headed, headed, frames-most}
 use Rattle.file.proofs.IndexLaws.{fit-lengths}
@@ -43,12 +43,12 @@ module _ (s : List ℕ) (w order labels counts : ℕ) where
       ∙ after-refused _ (test-refused LENGTH 0 (ap (λ (x : ℕ). lengthsFit x w order labels counts) (sym p) ∙ l))
 
   pub body-left : {n k : ℕ} → widthFits w ≡ true → headerTest s ≡ Verdict.Fine → n ≡ framesOf s → k ≡ stopOf s
-      → lengthsFit n w order labels counts ≡ true → readTest s w order labels counts ≡ bodyTest s n k w
+      → lengthsFit n w order labels counts ≡ true → readTest s w order labels counts ≡ bodyTest s n w k
   unfolding readTest
   body-left e h p q l =
       after-fine _ (test-fine SIZE 0 e) ∙ after-fine _ h
       ∙ after-fine _ (test-fine LENGTH 0 (ap (λ (x : ℕ). lengthsFit x w order labels counts) (sym p) ∙ l))
-      ∙ ap₂ (λ (x y : ℕ). bodyTest s x y w) (sym p) (sym q)
+      ∙ ap₂ (λ (x y : ℕ). bodyTest s x w y) (sym p) (sym q)
 
 -- what a file has that passes every test
 pub record Readable (s : List ℕ) (w order labels counts : ℕ) : Type 0 where
@@ -59,7 +59,7 @@ pub record Readable (s : List ℕ) (w order labels counts : ℕ) : Type 0 where
   pub labelled : labels ≡ framesOf s * w
   pub counted : counts ≡ framesOf s
   pub ordered : orderFrom s (framesOf s) 0 (framesOf s) ≡ Verdict.Fine
-  pub rowed : rowsFrom s (framesOf s) (stopOf s) w 0 (framesOf s) ≡ Verdict.Fine
+  pub rowed : rowsFrom s (framesOf s) w (stopOf s) 0 (framesOf s) ≡ Verdict.Fine
   pub ended : endTest s (rowBit s (framesOf s) (framesOf s)) ≡ Verdict.Fine
 
 pub readable : (s : List ℕ) (w order labels counts : ℕ) → readTest s w order labels counts ≡ Verdict.Fine
@@ -91,30 +91,30 @@ pub count-fits : {s : List ℕ} {w order labels counts : ℕ} → Readable s w o
     → (v : ℕ) → v < framesOf s → countAt s (framesOf s) v ≤ w
 unfolding countAt
 count-fits {s} {w} r v h =
-    row-fits s (framesOf s) (stopOf s) w v (rowBit s (framesOf s) v)
+    row-fits s (framesOf s) w (stopOf s) v (rowBit s (framesOf s) v)
     (tests-each _ (framesOf s) (r .rowed) v h)
 
 -- what the storing pass asks of the order and of the rows
 pub stores-order : {s : List ℕ} {w order labels counts n : ℕ} → Readable s w order labels counts → n ≡ framesOf s
-    → Ordered s n order
+    → OrderThere s n order
 unfolding rowBit
 stores-order {s} {w} {order} r p =
-    subst (λ (x : ℕ). Ordered s x order) (sym p)
+    subst (λ (x : ℕ). OrderThere s x order) (sym p)
     (record {
       most = frames-most s;
-      there = bits-there s (framesOf s) (stopOf s) w (r .rowed) (r .head .long) (r .ordered) 0 (omega arith);
+      there = bits-there s (framesOf s) w (stopOf s) (r .rowed) (r .head .long) (r .ordered) 0 (omega arith);
       room = r .orders;
     })
 
 pub stores-rows : {s : List ℕ} {w order labels counts n : ℕ} → Readable s w order labels counts → n ≡ framesOf s
-    → Rowed s n w labels counts
+    → RowsThere s n w labels counts
 stores-rows {s} {w} {order} {labels} {counts} r p =
-    subst (λ (x : ℕ). Rowed s x w labels counts) (sym p)
+    subst (λ (x : ℕ). RowsThere s x w labels counts) (sym p)
     (record {
       most = frames-most s;
       wide = r .wide;
       fits = count-fits r;
-      there = bits-there s (framesOf s) (stopOf s) w (r .rowed) (r .head .long) (r .ordered);
+      there = bits-there s (framesOf s) w (stopOf s) (r .rowed) (r .head .long) (r .ordered);
       room = r .labelled;
       counted = r .counted;
     })
@@ -125,10 +125,10 @@ module _ (s : List ℕ) (w : ℕ) (order labels counts : List ℕ) where
   -- a refusal leaves the rooms
   pub read-refused : {a : Opened} {r : Refusal} → a ≡ Opened.Refused r
       → readTest s w (length order) (length labels) (length counts) ≡ Verdict.Refused r
-      → outcome a order labels counts ≡ readOf s w order labels counts
+      → readOutcome a order labels counts ≡ readOf s w order labels counts
   unfolding readOf filledIn
   read-refused g e =
-      ap (λ (x : Opened). outcome x order labels counts) g ∙ sym (ap (λ (v : Verdict). filledIn v s w order labels counts) e)
+      ap (λ (x : Opened). readOutcome x order labels counts) g ∙ sym (ap (λ (v : Verdict). filledIn v s w order labels counts) e)
 
   -- the rooms filled to their ends are what the file says
   pub read-fine : {n k : ℕ} {o l c : List ℕ} → readTest s w (length order) (length labels) (length counts) ≡ Verdict.Fine
@@ -136,7 +136,7 @@ module _ (s : List ℕ) (w : ℕ) (order labels counts : List ℕ) where
       → o ≡ filled (frameAt s) order 0 n
       → l ≡ filled (labelAt s n w) labels 0 (n * w)
       → c ≡ filled (countAt s n) counts 0 n
-      → outcome (Opened.Index n k) o l c ≡ readOf s w order labels counts
+      → readOutcome (Opened.Index n k) o l c ≡ readOf s w order labels counts
   unfolding readOf filledIn orderRead labelsRead countsRead
   read-fine {n} {k} {o} {l} {c} e p q f g h =
       let r : Readable s w (length order) (length labels) (length counts) = readable s w _ _ _ e in
@@ -147,5 +147,5 @@ module _ (s : List ℕ) (w : ℕ) (order labels counts : List ℕ) where
       g ∙ ap (λ (x : ℕ). filled (labelAt s x w) labels 0 (x * w)) p ∙ filled-table (labelAt s m w) labels (m * w) (r .labelled) in
       let h' : c ≡ table m (countAt s m) =
       h ∙ ap (λ (x : ℕ). filled (countAt s x) counts 0 x) p ∙ filled-table (countAt s m) counts m (r .counted) in
-      (λ i. outcome (Opened.Index (p i) (q i)) (f' i) (g' i) (h' i))
+      (λ i. readOutcome (Opened.Index (p i) (q i)) (f' i) (g' i) (h' i))
       ∙ sym (ap (λ (v : Verdict). filledIn v s w order labels counts) e)

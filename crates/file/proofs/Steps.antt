@@ -15,7 +15,7 @@ use Rattle.refusal.specs.declared.Verdict.{Verdict}
 use Rattle.refusal.proofs.Laws.{test-fine, test-refused, test-held, then-fine, after-fine, after-refused, fine-not-refused, vcase}
 use Rattle.fields.specs.Bits.{fieldAt, byteLen}
 use Rattle.file.specs.Reader.{shortTest, fieldTest}
-use Rattle.file.specs.Steps.{step, verdictOf}
+use Rattle.file.specs.Inner.{step, stepVerdict}
 use Rattle.file.specs.declared.step.Step.{Step}
 
 -- ---- one field
@@ -98,6 +98,6 @@ unfolding step
 stopped Verdict.Fine y e = absurd (let z : _≡_ {A = ℕ} 0 1 = cc in omega arith)
 stopped (Verdict.Refused r) y e = cc
 
-pub verdict-refused : {t : Step} {r : Refusal} → t ≡ Step.Refused r → verdictOf t ≡ Verdict.Refused r
-unfolding verdictOf
-verdict-refused e = ap verdictOf e
+pub verdict-refused : {t : Step} {r : Refusal} → t ≡ Step.Refused r → stepVerdict t ≡ Verdict.Refused r
+unfolding stepVerdict
+verdict-refused e = ap stepVerdict e

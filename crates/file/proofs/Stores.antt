@@ -15,8 +15,8 @@ use Rattle.basics.proofs.Laws.{by-cases, cond-true, cond-false, less-one, is-ta
 use Rattle.rows.specs.Rooms.{part}
 use Rattle.rows.proofs.Laws.{row-inside, part-table}
 use Rattle.fields.specs.Bits.{fieldAt, byteLen}
-use Rattle.file.specs.Reader.{entryAt, cellOf, countAt, labelAt, labelsRead, behind, rowBit}
-use Rattle.file.specs.Stores.{filled, entryFrom, nought, cellAt, Row, Rowed}
+use Rattle.file.specs.Reader.{entryAt, cellOf, countAt, labelAt, labelsRead, bitBehind, rowBit}
+use Rattle.file.specs.Inner.{filled, entryFrom, nought, cellAt, RowThere, RowsThere}
 use Rattle.file.proofs.Inversion.{bit-near}
 
 -- ---- a filled room
@@ -181,14 +181,14 @@ rows-none s n w labels counts =
     }
 
 module _ {s : List ℕ} {n w : ℕ} {labels₀ counts₀ : List ℕ} {p base v : ℕ} {labels counts : List ℕ}
-    (asked : Rowed s n w (length labels₀) (length counts₀)) (k : RowsLeft s n w labels₀ counts₀ p base v labels counts) (h : v < n) where
+    (asked : RowsThere s n w (length labels₀) (length counts₀)) (k : RowsLeft s n w labels₀ counts₀ p base v labels counts) (h : v < n) where
   -- the row has its place
   pub next-room : base + w ≤ n * w
   next-room = omega (arith, row-inside {v = v} {n = n} {c = w} {w = w} h (omega arith), k .place)
 
   -- its bytes are there, and its count fits
-  pub next-row : {count : ℕ} → count ≡ fieldAt s p 9 → Row s p count w (length labels) base
-  unfolding rowBit behind countAt
+  pub next-row : {count : ℕ} → count ≡ fieldAt s p 9 → RowThere s p count w (length labels) base
+  unfolding rowBit bitBehind countAt
   next-row {count} e =
       let c : count ≡ countAt s n v = e ∙ ap (λ (x : ℕ). fieldAt s x 9) (k .bit) in
       record {
@@ -204,7 +204,7 @@ module _ {s : List ℕ} {n w : ℕ} {labels₀ counts₀ : List ℕ} {p base v :
   -- and behind it the next row
   pub next-left : {count : ℕ} (m : List ℕ) → count ≡ fieldAt s p 9 → m ≡ filled (cellAt s p count base) labels base w
       → RowsLeft s n w labels₀ counts₀ (p + 9 + 24 * count) (base + w) (v + 1) m (set counts v count)
-  unfolding rowBit behind countAt
+  unfolding rowBit bitBehind countAt
   next-left {count} m e g =
       let f : ℕ → ℕ = labelAt s n w in
       let c : count ≡ countAt s n v = e ∙ ap (λ (x : ℕ). fieldAt s x 9) (k .bit) in

@@ -13,17 +13,17 @@ lengthsFit n w order labels counts = eqb order n && eqb labels (n * w) && eqb co
 -- an index as it lies in the rooms
 pub record Stored : Type 0 where
   pub frames : ℕ
-  pub stop : ℕ
   pub width : ℕ
+  pub stop : ℕ
   pub order : List ℕ
   pub labels : List ℕ
   pub counts : List ℕ
 
 abbrev pub stored : ℕ → ℕ → ℕ → List ℕ → List ℕ → List ℕ → Stored
-stored n k w O labels counts = record { frames = n; stop = k; width = w; order = O; labels = labels; counts = counts }
+stored n w k O labels counts = record { frames = n; width = w; stop = k; order = O; labels = labels; counts = counts }
 
 -- two indexes are the same if n, k, the order, the counts and the used entries agree
-pub record Same (a b : Stored) : Type 0 where
+pub record SameIndex (a b : Stored) : Type 0 where
   pub frames : a .frames ≡ b .frames
   pub stop : a .stop ≡ b .stop
   pub order : a .order ≡ b .order

@@ -1,5 +1,4 @@
 pub mod Index
 pub mod Writer
 pub mod Reader
-pub mod Steps
-pub mod Stores
+pub mod Inner

@@ -2,19 +2,20 @@
 -- rooms hold afterwards. `s` is the byte string, n the frames and k the stop that its header gives, w the width of the call.
 use Prim.Native.Nat.{ℕ, zero, suc, _+_, _*_, _/_, _%_}
 use mathlib.Core.Bool.{Bool, cond, not, _&&_}
-use mathlib.Core.List.{List}
+use mathlib.Core.List.{List, [], _∷_}
 use lib.ListN.{length}
 use lib.Dec.{leb, ltb, eqb}
 use Rattle.basics.specs.Places.{table}
 use Rattle.refusal.specs.Numbers.{SIZE, LENGTH, ROOM, SHORT, VERSION, FIELD, LONG}
-use Rattle.refusal.specs.Sizes.{widthFits}
+use Rattle.refusal.specs.Sizes.{mostWidth, widthFits}
 use Rattle.refusal.specs.Tests.{test, _then_, testsFrom}
+use Rattle.refusal.specs.Told.{Told, gives, refuses}
 use Rattle.refusal.specs.declared.Verdict.{Verdict}
 use Rattle.links.specs.Order.{faultyRank}
 use Rattle.entry.specs.Entry.{entryOf}
 use Rattle.file.specs.declared.Opened.{Opened}
 use Rattle.fields.specs.Bits.{fieldAt, byteLen, padLen}
-use Rattle.fields.specs.Layout.{versionBits, framesBits, stopBits, spareBits, frameBits, countBits, rankBits, joinsBits, entryBits, framesBit, stopBit, spareBit, orderBit, joinsBit, entryBit}
+use Rattle.fields.specs.Layout.{versionBits, versionValue, framesBits, stopBits, spareBits, frameBits, countBits, rankBits, joinsBits, entryBits, framesBit, stopBit, spareBit, orderBit, joinsBit, entryBit}
 use Rattle.file.specs.Index.{lengthsFit}
 
 -- ---- one field
@@ -40,7 +41,7 @@ stopOf s = fieldAt s stopBit stopBits
 -- version (value 1), n - 1, k (over n: FIELD), spare (not 0: FIELD)
 unfoldable pub headerTest : List ℕ → Verdict
 headerTest s =
-    shortTest s 0 versionBits then test (eqb (fieldAt s 0 versionBits) 1) VERSION 0
+    shortTest s 0 versionBits then test (eqb (fieldAt s 0 versionBits) versionValue) VERSION 0
     then shortTest s framesBit framesBits
     then fieldTest s stopBit stopBits (leb (stopOf s) (framesOf s))
     then fieldTest s spareBit spareBits (eqb (fieldAt s spareBit spareBits) 0)
@@ -77,23 +78,23 @@ abbrev pub entriesFrom : List ℕ → ℕ → ℕ → ℕ → ℕ → ℕ → Ve
 entriesFrom s n k p i left = testsFrom (λ j. entryTest s n k (p + entryBits * j) (lowAt s p j)) i left
 
 -- for frame v a count (over 256: FIELD; else over W: ROOM) and its entries
-unfoldable pub rowTest : List ℕ → ℕ → ℕ → ℕ → ℕ → ℕ → Verdict
-rowTest s n k w v p =
+unfoldable pub rowFieldsTest : List ℕ → ℕ → ℕ → ℕ → ℕ → ℕ → Verdict
+rowFieldsTest s n w k v p =
     let entries : Verdict = entriesFrom s n k (p + countBits) 0 (fieldAt s p countBits) in
-    fieldTest s p countBits (leb (fieldAt s p countBits) 256) then test (leb (fieldAt s p countBits) w) ROOM v then entries
+    fieldTest s p countBits (leb (fieldAt s p countBits) mostWidth) then test (leb (fieldAt s p countBits) w) ROOM v then entries
 
 -- the bit behind the row at bit p
-unfoldable pub behind : List ℕ → ℕ → ℕ
-behind s p = entryBit p (fieldAt s p countBits)
+unfoldable pub bitBehind : List ℕ → ℕ → ℕ
+bitBehind s p = entryBit p (fieldAt s p countBits)
 
 -- the bit at which row v starts
 unfoldable pub rowBit : List ℕ → ℕ → ℕ → ℕ
 rowBit s n zero = orderBit n
-rowBit s n (suc v) = behind s (rowBit s n v)
+rowBit s n (suc v) = bitBehind s (rowBit s n v)
 
 -- `left` rows from frame v on
 abbrev pub rowsFrom : List ℕ → ℕ → ℕ → ℕ → ℕ → ℕ → Verdict
-rowsFrom s n k w v left = testsFrom (λ u. rowTest s n k w u (rowBit s n u)) v left
+rowsFrom s n w k v left = testsFrom (λ u. rowFieldsTest s n w k u (rowBit s n u)) v left
 
 -- ---- the end
 
@@ -104,7 +105,7 @@ endTest s p =
 
 -- everything behind the header, in bit order, then 13
 unfoldable pub bodyTest : List ℕ → ℕ → ℕ → ℕ → Verdict
-bodyTest s n k w = orderFrom s n 0 n then rowsFrom s n k w 0 n then endTest s (rowBit s n n)
+bodyTest s n w k = orderFrom s n 0 n then rowsFrom s n w k 0 n then endTest s (rowBit s n n)
 
 -- ---- the reader
 
@@ -114,7 +115,7 @@ readTest s w order labels counts =
     test (widthFits w) SIZE 0
     then headerTest s
     then test (lengthsFit (framesOf s) w order labels counts) LENGTH 0
-    then bodyTest s (framesOf s) (stopOf s) w
+    then bodyTest s (framesOf s) w (stopOf s)
 
 -- an index of n frames and stop k where the tests are fine, else their refusal
 unfoldable pub opened : Verdict → ℕ → ℕ → Opened
@@ -153,47 +154,37 @@ labelsRead s n w = table (n * w) (labelAt s n w)
 unfoldable pub countsRead : List ℕ → ℕ → List ℕ
 countsRead s n = table n (countAt s n)
 
--- an answer and what the three rooms then hold
-pub record Outcome : Type 0 where
+-- the paper's numbers: n and k
+unfoldable pub openedTold : Opened → Told
+openedTold (Opened.Index n k) = gives (n ∷ k ∷ [])
+openedTold (Opened.Refused r) = refuses r 2
+
+-- what comes back, also in the paper's numbers, and what the three rooms then hold
+pub record ReadOutcome : Type 0 where
   pub answer : Opened
+  pub told : Told
   pub order : List ℕ
   pub labels : List ℕ
   pub counts : List ℕ
 
-abbrev pub outcome : Opened → List ℕ → List ℕ → List ℕ → Outcome
-outcome answer order labels counts = record { answer = answer; order = order; labels = labels; counts = counts }
+abbrev pub readOutcome : Opened → List ℕ → List ℕ → List ℕ → ReadOutcome
+readOutcome answer order labels counts =
+    record { answer = answer; told = openedTold answer; order = order; labels = labels; counts = counts }
 
 -- the index that a file gives: n and k, and the rooms filled
-abbrev pub indexRead : List ℕ → ℕ → Outcome
+abbrev pub indexRead : List ℕ → ℕ → ReadOutcome
 indexRead s w =
-    outcome (Opened.Index (framesOf s) (stopOf s))
+    readOutcome (Opened.Index (framesOf s) (stopOf s))
     (orderRead s (framesOf s))
     (labelsRead s (framesOf s) w)
     (countsRead s (framesOf s))
 
 -- the rooms filled where the tests are fine, else as lent
-unfoldable pub filledIn : Verdict → List ℕ → ℕ → List ℕ → List ℕ → List ℕ → Outcome
+unfoldable pub filledIn : Verdict → List ℕ → ℕ → List ℕ → List ℕ → List ℕ → ReadOutcome
 filledIn Verdict.Fine s w order labels counts = indexRead s w
-filledIn (Verdict.Refused r) s w order labels counts = outcome (Opened.Refused r) order labels counts
+filledIn (Verdict.Refused r) s w order labels counts = readOutcome (Opened.Refused r) order labels counts
 
 -- the reader
-unfoldable pub readOf : List ℕ → ℕ → List ℕ → List ℕ → List ℕ → Outcome
+unfoldable pub readOf : List ℕ → ℕ → List ℕ → List ℕ → List ℕ → ReadOutcome
 readOf s w order labels counts =
     filledIn (readTest s w (length order) (length labels) (length counts)) s w order labels counts
-
--- ---- the paper's numbers of an answer
-
--- number and place, n and k
-pub record Told : Type 0 where
-  pub number : ℕ
-  pub place : ℕ
-  pub frames : ℕ
-  pub stop : ℕ
-
-abbrev pub tell : ℕ → ℕ → ℕ → ℕ → Told
-tell number place frames stop = record { number = number; place = place; frames = frames; stop = stop }
-
--- success is 0; a refusal gives number and place, and every other number is then 0
-unfoldable pub told : Opened → Told
-told (Opened.Index n k) = tell 0 0 n k
-told (Opened.Refused r) = tell (r .number) (r .place) 0 0

@@ -12,15 +12,18 @@ ghost use mathlib.Core.Path.{_≡_};
 ghost use lib.ListN.{length};
 ghost use Rattle.fields.specs.Bits.{fieldAt, byteLen};
 ghost use Rattle.fields.specs.Layout.{rankBits};
-ghost use Rattle.file.specs.Reader.{frameAt, orderFieldTest, orderFrom, entryTest, entriesFrom, rowTest, behind, rowBit, rowsFrom, endTest, bodyTest, framesOf, stopOf, readTest, opened};
-ghost use Rattle.file.specs.Steps.{step};
+ghost use Rattle.file.specs.Reader.{frameAt, orderFieldTest, orderFrom, entryTest, entriesFrom, rowFieldsTest, bitBehind, rowBit, rowsFrom, endTest, bodyTest, framesOf, stopOf, readTest, opened};
+ghost use Rattle.file.specs.Inner.{step};
 ghost use Rattle.links.specs.Inner.{Seen};
 
 // The order field of rank r; `seen` has the frames that stand at lower ranks.
 pub fn order_field(bytes: &[u8], n: usize, r: usize, seen: &mut [bool]) -> Verdict
     requires { ⌜ (n ≤ 4096) × (r < n) × Seen (frameAt (now bytes)) (now seen) r ⌝ }
     ensures found { λ x. ⌜ x ≡ orderFieldTest (now (bytes .entry)) n r ⌝ }
-    ensures noted { λ x. ⌜ (orderFieldTest (now (bytes .entry)) n r ≡ Verdict.Fine → Seen (frameAt (now (bytes .entry))) (now (seen .exit)) (r + 1)) ⌝ }
+    ensures noted { λ x. ⌜
+        (orderFieldTest (now (bytes .entry)) n r ≡ Verdict.Fine → Seen
+        (frameAt (now (bytes .entry))) (now (seen .exit)) (r + 1))
+        ⌝ }
 {
     let p = widths::HEADER_BITS + widths::FRAME_BITS * r;
     let got = step::field(bytes, p, widths::FRAME_BITS, n);
@@ -54,7 +57,10 @@ pub fn order(bytes: &[u8], n: usize) -> Verdict
 // One entry at bit p, field by field: its rank, which is `low` or more, or the refusal.
 pub fn entry_fields(bytes: &[u8], n: usize, k: usize, p: usize, low: usize) -> Step
     requires { ⌜ p < 2 ^ 30 ⌝ }
-    ensures { λ x. ⌜ x ≡ step (entryTest (now (bytes .entry)) n k p low) (fieldAt (now (bytes .entry)) p rankBits) ⌝ }
+    ensures { λ x. ⌜
+        x
+        ≡ step (entryTest (now (bytes .entry)) n k p low) (fieldAt (now (bytes .entry)) p rankBits)
+        ⌝ }
 {
     let got = step::field(bytes, p, widths::RANK_BITS, k);
     let Step::On(rank) = got else {
@@ -74,7 +80,10 @@ pub fn entry_fields(bytes: &[u8], n: usize, k: usize, p: usize, low: usize) -> S
 // The same, both fields at once where the bytes are there; what is not legal is found again field by field.
 pub fn entry(bytes: &[u8], n: usize, k: usize, p: usize, low: usize) -> Step
     requires { ⌜ p < 2 ^ 30 ⌝ }
-    ensures { λ x. ⌜ x ≡ step (entryTest (now (bytes .entry)) n k p low) (fieldAt (now (bytes .entry)) p rankBits) ⌝ }
+    ensures { λ x. ⌜
+        x
+        ≡ step (entryTest (now (bytes .entry)) n k p low) (fieldAt (now (bytes .entry)) p rankBits)
+        ⌝ }
 {
     let end = p / 8 + 4;
     if end <= bytes.len() {
@@ -113,9 +122,11 @@ pub fn entries(bytes: &[u8], n: usize, k: usize, p: usize, count: usize) -> Verd
 }
 
 // The row of frame v at bit p: the bit behind it, or the refusal.
-pub fn row(bytes: &[u8], n: usize, k: usize, w: usize, v: usize, p: usize) -> Step
+pub fn row(bytes: &[u8], n: usize, w: usize, k: usize, v: usize, p: usize) -> Step
     requires { ⌜ p < 2 ^ 28 ⌝ }
-    ensures { λ x. ⌜ x ≡ step (rowTest (now (bytes .entry)) n k w v p) (behind (now (bytes .entry)) p) ⌝ }
+    ensures { λ x. ⌜
+        x ≡ step (rowFieldsTest (now (bytes .entry)) n w k v p) (bitBehind (now (bytes .entry)) p)
+        ⌝ }
 {
     let got = step::field(bytes, p, widths::COUNT_BITS, widths::LEGAL_COUNTS);
     let Step::On(count) = got else {
@@ -133,14 +144,16 @@ pub fn row(bytes: &[u8], n: usize, k: usize, w: usize, v: usize, p: usize) -> St
 }
 
 // All rows: the bit behind them, or the refusal.
-pub fn rows(bytes: &[u8], n: usize, k: usize, w: usize) -> Step
+pub fn rows(bytes: &[u8], n: usize, w: usize, k: usize) -> Step
     requires { ⌜ n ≤ 4096 ⌝ }
-    ensures { λ x. ⌜ x ≡ step (rowsFrom (now (bytes .entry)) n k w 0 n) (rowBit (now (bytes .entry)) n n) ⌝ }
+    ensures { λ x. ⌜
+        x ≡ step (rowsFrom (now (bytes .entry)) n w k 0 n) (rowBit (now (bytes .entry)) n n)
+        ⌝ }
 {
     let mut v: usize = 0;
     let mut p = widths::HEADER_BITS + widths::FRAME_BITS * n;
     while v < n {
-        let got = row(bytes, n, k, w, v, p);
+        let got = row(bytes, n, w, k, v, p);
         let Step::On(next) = got else {
             return got;
         };
@@ -167,15 +180,15 @@ pub fn end(bytes: &[u8], p: usize) -> Verdict
 }
 
 // Everything behind the header.
-pub fn body(bytes: &[u8], n: usize, k: usize, w: usize) -> Verdict
+pub fn body(bytes: &[u8], n: usize, w: usize, k: usize) -> Verdict
     requires { ⌜ (n ≤ 4096) × (4 ≤ length (now bytes)) ⌝ }
-    ensures { λ x. ⌜ x ≡ bodyTest (now (bytes .entry)) n k w ⌝ }
+    ensures { λ x. ⌜ x ≡ bodyTest (now (bytes .entry)) n w k ⌝ }
 {
     let ordered = order(bytes, n);
     let Verdict::Fine = ordered else {
         return ordered;
     };
-    let found = rows(bytes, n, k, w);
+    let found = rows(bytes, n, w, k);
     let Step::On(bit) = found else {
         return step::verdict(found);
     };
@@ -184,7 +197,11 @@ pub fn body(bytes: &[u8], n: usize, k: usize, w: usize) -> Verdict
 
 // The whole file against a width and the lengths of three rooms: n and k, or the refusal.
 pub fn file(bytes: &[u8], w: usize, order: usize, labels: usize, counts: usize) -> Opened
-    ensures { λ x. ⌜ x ≡ opened (readTest (now (bytes .entry)) w order labels counts) (framesOf (now (bytes .entry))) (stopOf (now (bytes .entry))) ⌝ }
+    ensures { λ x. ⌜
+        x
+        ≡ opened (readTest (now (bytes .entry)) w order labels counts)
+        (framesOf (now (bytes .entry))) (stopOf (now (bytes .entry)))
+        ⌝ }
 {
     let width = refusal::sizes::width_fits(w);
     if !width {
@@ -198,7 +215,7 @@ pub fn file(bytes: &[u8], w: usize, order: usize, labels: usize, counts: usize) 
     if !lengths {
         return step::closed(refusal::LENGTH, 0);
     }
-    let tested = body(bytes, n, k, w);
+    let tested = body(bytes, n, w, k);
     if let Verdict::Refused(f) = tested {
         return Opened::Refused(f);
     }

@@ -3,14 +3,14 @@ mod rooms;
 mod writer;
 
 ghost use mathlib.Core.Path.{_≡_};
-ghost use Rattle.file.specs.Writer.{wrote, writeOf};
+ghost use Rattle.file.specs.Writer.{writeOutcome, writeOf};
 use entry::Entry;
 use fields::get;
 use fields::widths;
 use refusal;
 use refusal::Refusal;
 use refusal::Verdict;
-ghost use Rattle.file.specs.Reader.{headerOf, outcome, readOf, told};
+ghost use Rattle.file.specs.Reader.{headerOf, readOutcome, readOf, openedTold};
 
 mod check;
 mod step;
@@ -40,8 +40,9 @@ pub fn write(
     start: usize,
 ) -> Written
     ensures { λ r. ⌜
-        wrote r (now (out .exit))
-        ≡ writeOf n k w (now (order .entry)) (now (labels .entry)) (now (counts .entry)) (now (out .entry)) start
+        writeOutcome r (now (out .exit))
+        ≡ writeOf n w k (now (order .entry)) (now (labels .entry)) (now (counts .entry))
+        (now (out .entry)) start
         ⌝ }
 {
     let tests = writer::tests(n, w, k, order, labels, counts);
@@ -64,13 +65,13 @@ pub fn write(
 // The header alone: n and k, or the very refusal that the reader gives.
 pub fn header(bytes: &[u8]) -> Opened
     ensures given { λ r. ⌜ r ≡ headerOf (now (bytes .entry)) ⌝ }
-    ensures said { λ r. ⌜ told r ≡ told (headerOf (now (bytes .entry))) ⌝ }
+    ensures said { λ r. ⌜ openedTold r ≡ openedTold (headerOf (now (bytes .entry))) ⌝ }
 {
     if bytes.len() < widths::VERSION_BYTES {
         return step::closed(refusal::SHORT, 0);
     }
     let version = get::get(bytes, 0, widths::VERSION_BITS);
-    if version != 1 {
+    if version != widths::VERSION_VALUE {
         return step::closed(refusal::VERSION, 0);
     }
     if bytes.len() < widths::FRAMES_BYTES {
@@ -100,8 +101,16 @@ pub fn read(
     labels: &mut [Entry],
     counts: &mut [u32],
 ) -> Opened
-    ensures given { λ r. ⌜ outcome r (now (order .exit)) (now (labels .exit)) (now (counts .exit)) ≡ readOf (now (bytes .entry)) w (now (order .entry)) (now (labels .entry)) (now (counts .entry)) ⌝ }
-    ensures said { λ r. ⌜ told r ≡ told (readOf (now (bytes .entry)) w (now (order .entry)) (now (labels .entry)) (now (counts .entry)) .answer) ⌝ }
+    ensures given { λ r. ⌜
+        readOutcome r (now (order .exit)) (now (labels .exit)) (now (counts .exit))
+        ≡ readOf (now (bytes .entry)) w (now (order .entry)) (now (labels .entry))
+        (now (counts .entry))
+        ⌝ }
+    ensures said { λ r. ⌜
+        openedTold r
+        ≡ openedTold (readOf (now (bytes .entry)) w (now (order .entry)) (now (labels .entry))
+        (now (counts .entry)) .answer)
+        ⌝ }
 {
     let opened = check::file(bytes, w, order.len(), labels.len(), counts.len());
     let Opened::Index(n, k) = opened else {

@@ -7,9 +7,9 @@ ghost use mathlib.Core.Path.{_≡_};
 ghost use lib.Dec.{ltb};
 ghost use Rattle.refusal.specs.Tests.{refusal};
 ghost use Rattle.fields.specs.Bits.{fieldAt};
-ghost use Rattle.fields.specs.Near.{Near};
+ghost use Rattle.fields.specs.Inner.{Near};
 ghost use Rattle.file.specs.Reader.{fieldTest};
-ghost use Rattle.file.specs.Steps.{step, verdictOf};
+ghost use Rattle.file.specs.Inner.{step, stepVerdict};
 
 // A number to go on with, or the refusal.
 pub enum Step {
@@ -33,7 +33,7 @@ pub fn closed(number: u32, place: usize) -> Opened
 
 // A step without its number.
 pub fn verdict(taken: Step) -> Verdict
-    ensures { λ r. ⌜ r ≡ verdictOf taken ⌝ }
+    ensures { λ r. ⌜ r ≡ stepVerdict taken ⌝ }
 {
     match taken {
         Step::On(_) => Verdict::Fine,
@@ -47,7 +47,8 @@ pub fn field(bytes: &[u8], p: usize, width: usize, bound: usize) -> Step
     requires { ⌜ Near p width ⌝ }
     ensures { λ r. ⌜
         r
-        ≡ step (fieldTest (now (bytes .entry)) p width (ltb (fieldAt (now (bytes .entry)) p width) bound))
+        ≡ step
+        (fieldTest (now (bytes .entry)) p width (ltb (fieldAt (now (bytes .entry)) p width) bound))
         (fieldAt (now (bytes .entry)) p width)
         ⌝ }
 {

@@ -9,12 +9,14 @@ ghost use lib.ListN.{length, set};
 ghost use Rattle.fields.specs.Bits.{byteLen};
 ghost use Rattle.fields.specs.Layout.{entryBits};
 ghost use Rattle.file.specs.Reader.{frameAt, entryAt, countAt, labelAt};
-ghost use Rattle.file.specs.Stores.{filled, entryFrom, cellAt, nought, Entries, Row, Ordered, Rowed};
+ghost use Rattle.file.specs.Inner.{filled, entryFrom, cellAt, nought, EntriesThere, RowThere, OrderThere, RowsThere};
 
 // The order.
 pub fn order(bytes: &[u8], n: usize, order: &mut [u32])
-    requires { ⌜ Ordered (now bytes) n (length (now order)) ⌝ }
-    ensures { λ _. ⌜ now (order .exit) ≡ filled (frameAt (now (bytes .entry))) (now (order .entry)) 0 n ⌝ }
+    requires { ⌜ OrderThere (now bytes) n (length (now order)) ⌝ }
+    ensures { λ _. ⌜
+        now (order .exit) ≡ filled (frameAt (now (bytes .entry))) (now (order .entry)) 0 n
+        ⌝ }
 {
     let mut r: usize = 0;
     while r < n {
@@ -27,10 +29,14 @@ pub fn order(bytes: &[u8], n: usize, order: &mut [u32])
 
 // The entry at bit p, stored at place `at`.
 pub fn entry(bytes: &[u8], p: usize, labels: &mut [Entry], at: usize)
-    requires { ⌜ (p < 2 ^ 30) × (byteLen (p + entryBits) ≤ length (now bytes)) × (at < length (now labels)) ⌝ }
-    ensures { λ _. ⌜ now (labels .exit) ≡ set (now (labels .entry)) at (entryAt (now (bytes .entry)) p) ⌝ }
+    requires { ⌜
+        (p < 2 ^ 30) × (byteLen (p + entryBits) ≤ length (now bytes)) × (at < length (now labels))
+        ⌝ }
+    ensures { λ _. ⌜
+        now (labels .exit) ≡ set (now (labels .entry)) at (entryAt (now (bytes .entry)) p)
+        ⌝ }
 {
-    let both = get::pair(bytes, p);
+    let both = get::both(bytes, p);
     let rank = both / widths::JOINS_VALUES;
     let joins = both % widths::JOINS_VALUES;
     labels[at] = entry_of(rank, joins);
@@ -38,8 +44,11 @@ pub fn entry(bytes: &[u8], p: usize, labels: &mut [Entry], at: usize)
 
 // `count` entries from bit p on, stored from place `base` on.
 pub fn entries(bytes: &[u8], p: usize, count: usize, labels: &mut [Entry], base: usize)
-    requires { ⌜ Entries (now bytes) p count (length (now labels)) base ⌝ }
-    ensures { λ _. ⌜ now (labels .exit) ≡ filled (entryFrom (now (bytes .entry)) p base) (now (labels .entry)) base count ⌝ }
+    requires { ⌜ EntriesThere (now bytes) p count (length (now labels)) base ⌝ }
+    ensures { λ _. ⌜
+        now (labels .exit)
+        ≡ filled (entryFrom (now (bytes .entry)) p base) (now (labels .entry)) base count
+        ⌝ }
 {
     let end = base + count;
     let mut bit = p;
@@ -65,8 +74,11 @@ pub fn clear(labels: &mut [Entry], base: usize, end: usize)
 
 // The row of `count` entries at bit p, stored from place `base` on: its entries, then 0 up to W places.
 pub fn row(bytes: &[u8], p: usize, count: usize, w: usize, labels: &mut [Entry], base: usize)
-    requires { ⌜ Row (now bytes) p count w (length (now labels)) base ⌝ }
-    ensures { λ _. ⌜ now (labels .exit) ≡ filled (cellAt (now (bytes .entry)) p count base) (now (labels .entry)) base w ⌝ }
+    requires { ⌜ RowThere (now bytes) p count w (length (now labels)) base ⌝ }
+    ensures { λ _. ⌜
+        now (labels .exit)
+        ≡ filled (cellAt (now (bytes .entry)) p count base) (now (labels .entry)) base w
+        ⌝ }
 {
     entries(bytes, p + widths::COUNT_BITS, count, labels, base);
     clear(labels, base + count, base + w);
@@ -74,9 +86,14 @@ pub fn row(bytes: &[u8], p: usize, count: usize, w: usize, labels: &mut [Entry],
 
 // All rows and their counts.
 pub fn rows(bytes: &[u8], n: usize, w: usize, labels: &mut [Entry], counts: &mut [u32])
-    requires { ⌜ Rowed (now bytes) n w (length (now labels)) (length (now counts)) ⌝ }
-    ensures labels { λ _. ⌜ now (labels .exit) ≡ filled (labelAt (now (bytes .entry)) n w) (now (labels .entry)) 0 (n * w) ⌝ }
-    ensures counts { λ _. ⌜ now (counts .exit) ≡ filled (countAt (now (bytes .entry)) n) (now (counts .entry)) 0 n ⌝ }
+    requires { ⌜ RowsThere (now bytes) n w (length (now labels)) (length (now counts)) ⌝ }
+    ensures labels { λ _. ⌜
+        now (labels .exit)
+        ≡ filled (labelAt (now (bytes .entry)) n w) (now (labels .entry)) 0 (n * w)
+        ⌝ }
+    ensures counts { λ _. ⌜
+        now (counts .exit) ≡ filled (countAt (now (bytes .entry)) n) (now (counts .entry)) 0 n
+        ⌝ }
 {
     let mut p = widths::HEADER_BITS + widths::FRAME_BITS * n;
     let mut base: usize = 0;

@@ -5,7 +5,8 @@ ghost use Prim.Native.Nat.{_≤_};
 ghost use lib.ListN.{length};
 ghost use Rattle.basics.specs.Places.{sum};
 ghost use Rattle.fields.specs.Layout.{fileOf, fileSize};
-ghost use Rattle.file.specs.Writer.{indexSizes, writeTests, outFits, Fit};
+ghost use Rattle.file.specs.Writer.{indexSizes, writeTests, outFits};
+ghost use Rattle.file.specs.Inner.{Fit};
 use crate::rooms;
 use entry::Entry;
 use fields::put;
@@ -18,8 +19,8 @@ use rows::check;
 use rows::rooms::total;
 
 // Whether n, W and k are in range.
-pub fn sizes_fit(n: usize, w: usize, k: usize) -> bool
-    ensures { λ r. ⌜ r ≡ indexSizes n k w ⌝ }
+pub fn index_sizes(n: usize, w: usize, k: usize) -> bool
+    ensures { λ r. ⌜ r ≡ indexSizes n w k ⌝ }
 {
     let sizes = refusal::sizes::sizes_fit(n, w);
     if !sizes {
@@ -37,9 +38,11 @@ pub fn tests(
     labels: &[Entry],
     counts: &[u32],
 ) -> Verdict
-    ensures { λ r. ⌜ r ≡ writeTests n k w (now (order .entry)) (now (labels .entry)) (now (counts .entry)) ⌝ }
+    ensures { λ r. ⌜
+        r ≡ writeTests n w k (now (order .entry)) (now (labels .entry)) (now (counts .entry))
+        ⌝ }
 {
-    let sizes = sizes_fit(n, w, k);
+    let sizes = index_sizes(n, w, k);
     if !sizes {
         return refusal::refused(refusal::SIZE, 0);
     }
@@ -51,7 +54,7 @@ pub fn tests(
     let Verdict::Fine = once else {
         return once;
     };
-    check::check_rows(k, n, w, labels, counts)
+    check::check_rows(n, w, k, labels, counts)
 }
 
 // Whether an output room has the file's bytes from `start` on.
@@ -85,10 +88,13 @@ pub fn fill(
     counts: &[u32],
 )
     requires { ⌜
-        Fit n k w (now order) (now labels) (now counts)
-        × (length (now out) ≡ length (fileOf n k w (now order) (now labels) (now counts)))
+        Fit n w k (now order) (now labels) (now counts)
+        × (length (now out) ≡ length (fileOf n w k (now order) (now labels) (now counts)))
         ⌝ }
-    ensures { λ _. ⌜ now (out .exit) ≡ fileOf n k w (now (order .entry)) (now (labels .entry)) (now (counts .entry)) ⌝ }
+    ensures { λ _. ⌜
+        now (out .exit)
+        ≡ fileOf n w k (now (order .entry)) (now (labels .entry)) (now (counts .entry))
+        ⌝ }
 {
     let pen = Pen {
         at: 0,

@@ -3,33 +3,37 @@ use refusal::Verdict;
 ghost use mathlib.Core.Path.{_≡_};
 ghost use Rattle.refusal.specs.Told.{verdictTold};
 ghost use Rattle.links.specs.Links.{checkLinks};
-ghost use Rattle.links.specs.Order.{checkOrder, degreeTests, ordered, degreeOf};
+ghost use Rattle.links.specs.Order.{checkOrder, ordered, degreeOf};
+ghost use Rattle.links.specs.Inner.{blockTests};
 
 mod once;
 mod ranks;
 mod scan;
 mod sizes;
 
-// Tests 1 to 4 on n frames, their start positions and neighbour places, beside an order room of `room` places.
-fn block_tests(n: usize, starts: &[u32], places: &[u32], room: usize) -> Verdict
-    ensures { λ r. ⌜ r ≡ degreeTests n (now (starts .entry)) (now (places .entry)) room ⌝ }
+// Tests 1 to 4 on n frames, their start positions and neighbour places; LENGTH also where not all other rooms are as `long`
+// as they have to be.
+fn block_tests(n: usize, starts: &[u32], places: &[u32], long: bool) -> Verdict
+    ensures { λ r. ⌜ r ≡ blockTests n (now (starts .entry)) (now (places .entry)) long ⌝ }
 {
     let fits = sizes::tests(n, starts, places);
     let Verdict::Fine = fits else {
         return fits;
     };
-    if room != n {
+    if !long {
         return refusal::refused(refusal::LENGTH, 0);
     }
     scan::tests(n, starts, places)
 }
 
-// Check links: tests 1 to 4. There is no order room: one of n places is never refused.
+// Check links: tests 1 to 4. There is no other room.
 pub fn check_links(n: usize, starts: &[u32], places: &[u32]) -> Verdict
     ensures answer { λ r. ⌜ r ≡ checkLinks n (now (starts .entry)) (now (places .entry)) ⌝ }
-    ensures numbers { λ r. ⌜ verdictTold r ≡ verdictTold (checkLinks n (now (starts .entry)) (now (places .entry))) ⌝ }
+    ensures numbers { λ r. ⌜
+        verdictTold r ≡ verdictTold (checkLinks n (now (starts .entry)) (now (places .entry)))
+        ⌝ }
 {
-    block_tests(n, starts, places, n)
+    block_tests(n, starts, places, true)
 }
 
 // Check order: tests 1, 2 and 5 on an order of n frames.
@@ -49,14 +53,17 @@ pub fn check_order(n: usize, order: &[u32]) -> Verdict
 // Order by degree: tests 1 to 4, then the order room filled; as lent where a test refuses.
 pub fn order_by_degree(n: usize, starts: &[u32], places: &[u32], order: &mut [u32]) -> Verdict
     ensures answer { λ r. ⌜
-        ordered r (now (order .exit)) ≡ degreeOf n (now (starts .entry)) (now (places .entry)) (now (order .entry))
+        ordered r (now (order .exit))
+        ≡ degreeOf n (now (starts .entry)) (now (places .entry)) (now (order .entry))
         ⌝ }
     ensures numbers { λ r. ⌜
         verdictTold r
-        ≡ verdictTold (degreeOf n (now (starts .entry)) (now (places .entry)) (now (order .entry)) .verdict)
+        ≡ verdictTold
+        (degreeOf n (now (starts .entry)) (now (places .entry)) (now (order .entry)) .verdict)
         ⌝ }
 {
-    let links = block_tests(n, starts, places, order.len());
+    let long = order.len() == n;
+    let links = block_tests(n, starts, places, long);
     let Verdict::Fine = links else {
         return links;
     };

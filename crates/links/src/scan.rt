@@ -62,7 +62,10 @@ pub fn set_cursors(n: usize, starts: &[u32], cursors: &mut [u32])
 // Whether the list of w holds v. A guess that is right moves the cursor on, a search sets it anew.
 pub fn mirrored(starts: &[u32], places: &[u32], w: usize, v: usize, cursors: &mut [u32]) -> bool
     requires { ⌜ ListIn (now starts) (now places) w × Cursors (now starts) (now cursors) ⌝ }
-    ensures { λ r. ⌜ (r ≡ holds (now (starts .entry)) (now (places .entry)) w v) × Cursors (now (starts .entry)) (now (cursors .exit)) ⌝ }
+    ensures { λ r. ⌜
+        (r ≡ holds (now (starts .entry)) (now (places .entry)) w v)
+        × Cursors (now (starts .entry)) (now (cursors .exit))
+        ⌝ }
 {
     let next = w + 1;
     let end = starts[next] as usize;
@@ -94,7 +97,10 @@ pub fn faulty(
     cursors: &mut [u32],
 ) -> bool
     requires { ⌜ Starts n (now starts) (now places) × Cursors (now starts) (now cursors) ⌝ }
-    ensures { λ r. ⌜ (r ≡ faultyFrom n (now (starts .entry)) (now (places .entry)) v floor w) × Cursors (now (starts .entry)) (now (cursors .exit)) ⌝ }
+    ensures { λ r. ⌜
+        (r ≡ faultyFrom n (now (starts .entry)) (now (places .entry)) v floor w)
+        × Cursors (now (starts .entry)) (now (cursors .exit))
+        ⌝ }
 {
     if n <= w {
         return true;
@@ -140,7 +146,11 @@ pub fn first_faulty(n: usize, starts: &[u32], places: &[u32]) -> usize
 // Tests 3 and 4.
 pub fn tests(n: usize, starts: &[u32], places: &[u32]) -> Verdict
     requires { ⌜ Fits n (now starts) (now places) ⌝ }
-    ensures { λ r. ⌜ r ≡ (startsTest n (now (starts .entry)) (now (places .entry)) then listsTest n (now (starts .entry)) (now (places .entry))) ⌝ }
+    ensures { λ r. ⌜
+        r
+        ≡ (startsTest n (now (starts .entry)) (now (places .entry))
+        then listsTest n (now (starts .entry)) (now (places .entry)))
+        ⌝ }
 {
     if starts_right(n, starts, places) {
         let v = first_faulty(n, starts, places);

@@ -4,7 +4,7 @@ use native.Mathlib.Omega.{arith}
 use mathlib.Core.Path.{_≡_, refl, sym, ap, subst, _∙_}
 use mathlib.Core.Bool.{true}
 use mathlib.Core.List.{List}
-use lib.ListN.{length, take}
+use lib.ListN.{length, getD, take}
 use lib.Seq.{length-take-le}
 use borrow.Author.Tests.{le-leb, lt-leb}
 use Rattle.refusal.specs.Numbers.{SIZE}
@@ -17,32 +17,33 @@ use Rattle.rows.specs.Spread.{spreadFigure, spreadOf, spreadTold}
 use Rattle.rows.proofs.RoomLaws.{rows-sound}
 use Rattle.rows.proofs.SpreadLaws.{spread-sound}
 use Rattle.file.specs.declared.Opened.{Opened}
-use Rattle.file.specs.Reader.{framesOf, stopOf, headerTest, headerOf, readTest, readOf, filledIn, outcome, Outcome, told}
+use Rattle.file.specs.Reader.{framesOf, stopOf, headerTest, headerOf, readTest, readOf, filledIn, readOutcome, ReadOutcome, openedTold}
 use Rattle.file.proofs.Heading.{index-is, refused-is}
 use Rattle.file.proofs.ReadSpread.{read-rows}
-use Rattle.listing.specs.Lines.{WIDTH, MOST, Cut, Shown, refusedText}
+use Rattle.listing.specs.Lines.{WIDTH, MOST, refusedText}
+use Rattle.listing.specs.Inner.{Cut, Shown}
 use Rattle.listing.specs.Listing.{indexText, fileText, readText, listingTest, listingOf}
 
 -- ---- the index
 
 -- sound rows can be listed
-pub shown-by : (n : ℕ) {order labels counts : List ℕ} → checkRows n n WIDTH labels counts ≡ Verdict.Fine
+pub shown-by : (n : ℕ) {order labels counts : List ℕ} → checkRows n WIDTH n labels counts ≡ Verdict.Fine
     → Cut order labels counts → Shown order labels counts
 shown-by n {order} {labels} {counts} e cut =
-    let (rooms, sound) = rows-sound n n WIDTH labels counts e in
+    let (rooms, sound) = rows-sound n WIDTH n labels counts e in
     record {
       cut = cut;
       sound =
           λ v inside.
-          subst (λ (m : ℕ). soundRow m m WIDTH labels counts v ≡ true) (sym (rooms .each)) (sound v (omega (arith, rooms .each)));
+          subst (λ (m : ℕ). soundRow m WIDTH m labels counts v ≡ true) (sym (rooms .each)) (sound v (omega (arith, rooms .each)));
     }
 
 -- and the spread that was answered is theirs
-pub spread-said : (n : ℕ) {spread : ℕ} (labels counts : List ℕ) {a : SpreadAnswer} → checkRows n n WIDTH labels counts ≡ Verdict.Fine
-    → a ≡ spreadOf n WIDTH labels counts → spread ≡ spreadTold a .spread → spread ≡ spreadFigure n WIDTH labels counts
+pub spread-said : (n : ℕ) {spread : ℕ} (labels counts : List ℕ) {a : SpreadAnswer} → checkRows n WIDTH n labels counts ≡ Verdict.Fine
+    → a ≡ spreadOf n WIDTH labels counts → spread ≡ getD (spreadTold a .values) 0 0 → spread ≡ spreadFigure n WIDTH labels counts
 unfolding spreadTold
 spread-said n labels counts e f g =
-    g ∙ ap (λ (x : SpreadAnswer). spreadTold x .spread) (f ∙ spread-sound n WIDTH labels counts e)
+    g ∙ ap (λ (x : SpreadAnswer). getD (spreadTold x .values) 0 0) (f ∙ spread-sound n WIDTH labels counts e)
 
 -- ---- the reader's answer
 
@@ -52,35 +53,35 @@ openedText (Opened.Index n k) order labels counts = indexText n k order labels c
 openedText (Opened.Refused r) order labels counts = refusedText (r .number)
 
 filled-text : (v : Verdict) (s order labels counts : List ℕ)
-    → let o : Outcome = filledIn v s WIDTH order labels counts in
+    → let o : ReadOutcome = filledIn v s WIDTH order labels counts in
     openedText (o .answer) (o .order) (o .labels) (o .counts) ≡ readText v s
 unfolding filledIn openedText readText fileText
 filled-text Verdict.Fine s order labels counts = refl
 filled-text (Verdict.Refused r) s order labels counts = refl
 
 -- a refusal's number as text
-pub refused-text : {a : Opened} {r : Refusal} {number : ℕ} → number ≡ told a .number → a ≡ Opened.Refused r
+pub refused-text : {a : Opened} {r : Refusal} {number : ℕ} → number ≡ openedTold a .number → a ≡ Opened.Refused r
     → refusedText number ≡ refusedText (r .number)
-unfolding told
-refused-text e f = ap refusedText (e ∙ ap (λ (a : Opened). told a .number) f)
+unfolding openedTold
+refused-text e f = ap refusedText (e ∙ ap (λ (a : Opened). openedTold a .number) f)
 
 -- the text of an answer that was found
 pub read-found : (s order labels counts : List ℕ) {order' labels' counts' : List ℕ} {a found : Opened}
-    → outcome a order' labels' counts' ≡ readOf s WIDTH order labels counts → a ≡ found
+    → readOutcome a order' labels' counts' ≡ readOf s WIDTH order labels counts → a ≡ found
     → openedText found order' labels' counts'
     ≡ readText (readTest s WIDTH (length order) (length labels) (length counts)) s
 unfolding readOf
 read-found s order labels counts {order'} {labels'} {counts'} e f =
     sym (ap (λ (b : Opened). openedText b order' labels' counts') f)
-    ∙ (ap (λ (o : Outcome). openedText (o .answer) (o .order) (o .labels) (o .counts)) e
+    ∙ (ap (λ (o : ReadOutcome). openedText (o .answer) (o .order) (o .labels) (o .counts)) e
     ∙ filled-text (readTest s WIDTH (length order) (length labels) (length counts)) s order labels counts)
 
 -- the rows of an index that was found are sound
 pub rows-found : (s order labels counts : List ℕ) {order' labels' counts' : List ℕ} {a : Opened} {n k : ℕ}
-    → outcome a order' labels' counts' ≡ readOf s WIDTH order labels counts → a ≡ Opened.Index n k
-    → checkRows n n WIDTH labels' counts' ≡ Verdict.Fine
+    → readOutcome a order' labels' counts' ≡ readOf s WIDTH order labels counts → a ≡ Opened.Index n k
+    → checkRows n WIDTH n labels' counts' ≡ Verdict.Fine
 rows-found s order labels counts {order'} {labels'} {counts'} e f =
-    read-rows s WIDTH order labels counts _ _ (sym (ap (λ (b : Opened). outcome b order' labels' counts') f) ∙ e)
+    read-rows s WIDTH order labels counts _ _ (sym (ap (λ (b : Opened). readOutcome b order' labels' counts') f) ∙ e)
 
 -- ---- the header
 

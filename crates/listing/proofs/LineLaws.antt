@@ -5,17 +5,18 @@ use native.Mathlib.Omega.{arith}
 use mathlib.Core.Path.{_≡_, refl}
 use mathlib.Core.List.{List}
 use lib.ListN.{length, getD}
-use Rattle.entry.specs.Entry.{RanksIn}
-use Rattle.rows.specs.Rooms.{Rooms, partOf, rowAt}
+use Rattle.entry.specs.Inner.{RanksIn}
+use Rattle.rows.specs.Inner.{Rooms}
+use Rattle.rows.specs.Rooms.{partOf, rowAt}
 use Rattle.rows.proofs.Laws.{Sound, row-sound}
 use Rattle.rows.proofs.RoomLaws.{part-is-row, length-row}
-use Rattle.listing.specs.Text.{Put}
-use Rattle.listing.specs.Lines.{WIDTH, Shown, texts}
+use Rattle.listing.specs.Inner.{PutText, Shown}
+use Rattle.listing.specs.Lines.{WIDTH, texts}
 use Rattle.listing.proofs.TextLaws.{put-more}
 
 -- one text more put
-pub put-text : {room mid last : List ℕ} {at next end : ℕ} (text : ℕ → List ℕ) (i : ℕ) → Put room at (texts text i) mid next
-    → Put mid next (text i) last end → Put room at (texts text (i + 1)) last end
+pub put-text : {room mid last : List ℕ} {at next end : ℕ} (text : ℕ → List ℕ) (i : ℕ) → PutText room at (texts text i) mid next
+    → PutText mid next (text i) last end → PutText room at (texts text (i + 1)) last end
 unfolding texts
 put-text text i p q = rw add-one (put-more p q)
 
@@ -36,7 +37,7 @@ module _ {order labels counts : List ℕ} (s : Shown order labels counts) (v : �
       }
 
   sound : (getD counts v 0 ≤ WIDTH) × Sound (length counts) (length counts) (rowAt WIDTH labels counts v) (getD counts v 0)
-  sound = row-sound (length counts) (length counts) WIDTH labels counts v (s .sound v h)
+  sound = row-sound (length counts) WIDTH (length counts) labels counts v (s .sound v h)
 
   -- a row's part is the row
   pub shown-row : partOf WIDTH labels v (getD counts v 0) ≡ rowAt WIDTH labels counts v

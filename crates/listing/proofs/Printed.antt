@@ -24,7 +24,7 @@ listing-refused s r e = ap (λ (v : Verdict). readText v s) e
 abbrev printed : List ℕ → ℕ → ℕ → List ℕ
 printed s n spread =
     headText n (stopOf s) (sum (countsRead s n)) spread
-    ++ linesText WIDTH (orderRead s n) (labelsRead s n WIDTH) (countsRead s n) (length (countsRead s n))
+    ++ linesText (length (countsRead s n)) WIDTH (orderRead s n) (labelsRead s n WIDTH) (countsRead s n)
 
 pub listing-index : (s : List ℕ) → listingTest s ≡ Verdict.Fine
     → (spread : ℕ)

@@ -11,16 +11,17 @@ use lib.Dec.{ltb}
 use borrow.Author.Tests.{lt-ltb, le-ltb}
 use Rattle.basics.proofs.Laws.{first-is, lt-or-ge, drop-later}
 use Rattle.io.specs.Digits.{digits, Fewest}
-use Rattle.listing.specs.Text.{digitCount, decimal, Put}
+use Rattle.listing.specs.Text.{digitCount, decimal}
+use Rattle.listing.specs.Inner.{PutText}
 
 -- ---- text in a room
 
 -- nothing put
-pub put-none : (room : List ℕ) (at : ℕ) → Put room at [] room at
+pub put-none : (room : List ℕ) (at : ℕ) → PutText room at [] room at
 put-none room at = record { long = refl; ends = sym (add-zero at); holds = sym (append-nil (take at room)); rest = refl }
 
 -- one byte put
-pub put-byte : (room : List ℕ) (at b : ℕ) → at < length room → Put room at (b ∷ []) (set room at b) (at + 1)
+pub put-byte : (room : List ℕ) (at b : ℕ) → at < length room → PutText room at (b ∷ []) (set room at b) (at + 1)
 put-byte room at b h =
     record {
       long = length-set room at b;
@@ -30,8 +31,8 @@ put-byte room at b h =
     }
 
 -- text, and more text behind it
-pub put-more : {room mid last s t : List ℕ} {at next end : ℕ} → Put room at s mid next → Put mid next t last end
-    → Put room at (s ++ t) last end
+pub put-more : {room mid last s t : List ℕ} {at next end : ℕ} → PutText room at s mid next → PutText mid next t last end
+    → PutText room at (s ++ t) last end
 put-more {room} {mid} {last} {s} {t} {at} {next} {end} p q =
     record {
       long = q .long ∙ p .long;
@@ -41,16 +42,16 @@ put-more {room} {mid} {last} {s} {t} {at} {next} {end} p q =
     }
 
 -- the same text
-pub put-as : {room last s t : List ℕ} {at end : ℕ} → s ≡ t → Put room at s last end → Put room at t last end
-put-as {room} {last} {at = at} {end} e p = subst (λ (t : List ℕ). Put room at t last end) e p
+pub put-as : {room last s t : List ℕ} {at end : ℕ} → s ≡ t → PutText room at s last end → PutText room at t last end
+put-as {room} {last} {at = at} {end} e p = subst (λ (t : List ℕ). PutText room at t last end) e p
 
 -- one byte more of a text
 pub put-next : {room mid : List ℕ} {at : ℕ} (text : List ℕ) (i : ℕ) → i < length text → at + i < length mid
-    → Put room at (take i text) mid (at + i)
-    → Put room at (take (i + 1) text) (set mid (at + i) (getD text i 0)) (at + (i + 1))
+    → PutText room at (take i text) mid (at + i)
+    → PutText room at (take (i + 1) text) (set mid (at + i) (getD text i 0)) (at + (i + 1))
 put-next {room} {mid} {at} text i inside fits p =
     rw (add-one, take-suc text i 0)
-    (subst (λ (k : ℕ). Put room at (take i text ++ (getD text i 0 ∷ [])) (set mid (at + i) (getD text i 0)) k) (omega arith)
+    (subst (λ (k : ℕ). PutText room at (take i text ++ (getD text i 0 ∷ [])) (set mid (at + i) (getD text i 0)) k) (omega arith)
     (put-more p (put-byte mid (at + i) (getD text i 0) fits)))
 
 -- ---- a number

@@ -1,11 +1,9 @@
 -- The lines of the listing, as the paper prints them. A list of numbers is a text of bytes.
-use Prim.Native.Nat.{ℕ, zero, suc, _*_, _≤_, _<_}
-use mathlib.Core.Path.{_≡_}
-use mathlib.Core.Bool.{true}
+use Prim.Native.Nat.{ℕ, zero, suc}
 use mathlib.Core.List.{List, [], _∷_, _++_}
 use lib.ListN.{length, getD}
 use Rattle.entry.specs.Entry.{rankOf, joinsOf}
-use Rattle.rows.specs.Rooms.{rowAt, soundRow}
+use Rattle.rows.specs.Rooms.{rowAt}
 use Rattle.listing.specs.Text.{decimal}
 
 -- W = 32
@@ -19,17 +17,6 @@ MOST = 256
 -- bytes of the longest text: a first line of 111, and 256 lines of 1,365
 abbrev pub LONGEST : ℕ
 LONGEST = 349551
-
--- rooms cut to one number of frames, at most 256
-pub record Cut (order labels counts : List ℕ) : Type 0 where
-  pub frames : length counts ≤ MOST
-  pub ordered : length order ≡ length counts
-  pub places : length labels ≡ length counts * WIDTH
-
--- rooms that can be listed: cut, and each row is sound for the bound n
-pub record Shown (order labels counts : List ℕ) : Type 0 where
-  pub cut : Cut order labels counts
-  pub sound : (v : ℕ) → v < length counts → soundRow (length counts) (length counts) WIDTH labels counts v ≡ true
 
 abbrev pub space : ℕ
 space = 32
@@ -58,8 +45,8 @@ unfoldable pub lineText : List ℕ → ℕ → List ℕ → List ℕ
 lineText order v row = decimal v ++ (entriesText order row ++ (newline ∷ []))
 
 -- the lines of frames 0 to n - 1
-abbrev pub linesText : ℕ → List ℕ → List ℕ → List ℕ → ℕ → List ℕ
-linesText w order labels counts n = texts (λ v. lineText order v (rowAt w labels counts v)) n
+abbrev pub linesText : ℕ → ℕ → List ℕ → List ℕ → List ℕ → List ℕ
+linesText n w order labels counts = texts (λ v. lineText order v (rowAt w labels counts v)) n
 
 -- 'frames ', ' hubs ', ' entries ', ' spread ' and 'refused '
 abbrev pub framesWord : List ℕ

@@ -16,7 +16,7 @@ use Rattle.listing.specs.Lines.{WIDTH, MOST, headText, linesText, refuse
 unfoldable pub indexText : ℕ → ℕ → List ℕ → List ℕ → List ℕ → List ℕ
 indexText n k order labels counts =
     headText n k (sum counts) (spreadFigure n WIDTH labels counts)
-    ++ linesText WIDTH order labels counts (length counts)
+    ++ linesText (length counts) WIDTH order labels counts
 
 -- the index of n frames that a file gives
 unfoldable pub fileText : List ℕ → ℕ → List ℕ

@@ -1,13 +1,13 @@
 // From a file's bytes to the text: the header, the test on the frames, the reader on rooms of just that length, the lines.
 ghost use mathlib.Core.Path.{_≡_};
 ghost use Prim.Native.Nat.{_*_, _≤_};
-ghost use lib.ListN.{length};
+ghost use lib.ListN.{length, getD};
 ghost use Rattle.refusal.specs.declared.Verdict.{Verdict};
 ghost use Rattle.rows.specs.Rooms.{checkRows};
 ghost use Rattle.rows.specs.Spread.{spreadTold};
-ghost use Rattle.file.specs.Reader.{readTest, told};
-ghost use Rattle.listing.specs.Text.{Put};
-ghost use Rattle.listing.specs.Lines.{WIDTH as width, MOST, LONGEST, Cut};
+ghost use Rattle.file.specs.Reader.{readTest, openedTold};
+ghost use Rattle.listing.specs.Inner.{PutText, Cut};
+ghost use Rattle.listing.specs.Lines.{WIDTH as width, MOST, LONGEST};
 ghost use Rattle.listing.specs.Listing.{listingOf, readText, indexText};
 use crate::FRAMES;
 use crate::WIDTH;
@@ -20,7 +20,7 @@ use rows::spread::SpreadAnswer;
 
 // The number of a refusal, 0 of an index.
 fn number_of(opened: Opened) -> u32
-    ensures { λ r. ⌜ r ≡ told opened .number ⌝ }
+    ensures { λ r. ⌜ r ≡ openedTold opened .number ⌝ }
 {
     match opened {
         Opened::Index(_, _) => 0,
@@ -36,9 +36,15 @@ pub fn open(
     counts: &mut [u32],
     out: &mut [u8],
 ) -> usize
-    requires { ⌜ (length (now order) ≡ MOST) × (length (now labels) ≡ MOST * width) × (length (now counts) ≡ MOST) ⌝ }
+    requires { ⌜
+        (length (now order) ≡ MOST)
+        × (length (now labels) ≡ MOST * width)
+        × (length (now counts) ≡ MOST)
+        ⌝ }
     requires { ⌜ LONGEST ≤ length (now out) ⌝ }
-    ensures put { λ r. ⌜ Put (now (out .entry)) 0 (listingOf (now (bytes .entry))) (now (out .exit)) r ⌝ }
+    ensures put { λ r. ⌜
+        PutText (now (out .entry)) 0 (listingOf (now (bytes .entry))) (now (out .exit)) r
+        ⌝ }
     ensures near { λ r. ⌜ r ≤ LONGEST ⌝ }
 {
     let opened = file::header(bytes);
@@ -69,8 +75,9 @@ fn read(
     requires { ⌜ Cut (now order) (now labels) (now counts) ⌝ }
     requires { ⌜ LONGEST ≤ length (now out) ⌝ }
     ensures put { λ r. ⌜
-        Put (now (out .entry)) 0
-        (readText (readTest (now (bytes .entry)) width (length (now (order .entry))) (length (now (labels .entry))) (length (now (counts .entry)))) (now (bytes .entry)))
+        PutText (now (out .entry)) 0
+        (readText (readTest (now (bytes .entry)) width (length (now (order .entry)))
+        (length (now (labels .entry))) (length (now (counts .entry)))) (now (bytes .entry)))
         (now (out .exit)) r
         ⌝ }
     ensures near { λ r. ⌜ r ≤ LONGEST ⌝ }
@@ -84,7 +91,7 @@ fn read(
 
 // The spread that was answered, 0 of a refusal.
 fn spread_of(answer: SpreadAnswer) -> usize
-    ensures { λ r. ⌜ r ≡ spreadTold answer .spread ⌝ }
+    ensures { λ r. ⌜ r ≡ getD (spreadTold answer .values) 0 0 ⌝ }
 {
     match answer {
         SpreadAnswer::Spread(spread) => spread,
@@ -102,10 +109,10 @@ fn show(
     out: &mut [u8],
 ) -> usize
     requires { ⌜ Cut (now order) (now labels) (now counts) ⌝ }
-    requires { ⌜ checkRows n n width (now labels) (now counts) ≡ Verdict.Fine ⌝ }
+    requires { ⌜ checkRows n width n (now labels) (now counts) ≡ Verdict.Fine ⌝ }
     requires { ⌜ LONGEST ≤ length (now out) ⌝ }
     ensures put { λ r. ⌜
-        Put (now (out .entry)) 0
+        PutText (now (out .entry)) 0
         (indexText n k (now (order .entry)) (now (labels .entry)) (now (counts .entry)))
         (now (out .exit)) r
         ⌝ }

@@ -3,9 +3,11 @@
 ghost use Prim.Native.Nat.{_+_, _*_, _<_, _≤_};
 ghost use mathlib.Core.List.{_++_};
 ghost use lib.ListN.{length};
-ghost use Rattle.entry.specs.Entry.{rankOf, RanksIn};
-ghost use Rattle.listing.specs.Text.{Put, decimal};
-ghost use Rattle.listing.specs.Lines.{WIDTH as width, Shown, entryText, entriesText, lineText, linesText, headText, refusedText};
+ghost use Rattle.entry.specs.Entry.{rankOf};
+ghost use Rattle.entry.specs.Inner.{RanksIn};
+ghost use Rattle.listing.specs.Inner.{PutText, Shown};
+ghost use Rattle.listing.specs.Text.{decimal};
+ghost use Rattle.listing.specs.Lines.{WIDTH as width, entryText, entriesText, lineText, linesText, headText, refusedText};
 use crate::WIDTH;
 use crate::text;
 use entry::Entry;
@@ -17,7 +19,9 @@ use rows::part::row_part;
 // the order.
 pub fn entry(out: &mut [u8], at: usize, order: &[u32], e: Entry) -> usize
     requires { ⌜ (at + 42 ≤ length (now out)) × (rankOf e < length (now order)) ⌝ }
-    ensures put { λ r. ⌜ Put (now (out .entry)) at (entryText (now (order .entry)) e) (now (out .exit)) r ⌝ }
+    ensures put { λ r. ⌜
+        PutText (now (out .entry)) at (entryText (now (order .entry)) e) (now (out .exit)) r
+        ⌝ }
     ensures near { λ r. ⌜ r ≤ at + 42 ⌝ }
 {
     let rank = rank_of(e);
@@ -36,7 +40,8 @@ pub fn entries(out: &mut [u8], at: usize, order: &[u32], row: &[Entry]) -> usize
         × RanksIn (now row) (now order)
         ⌝ }
     ensures put { λ r. ⌜
-        Put (now (out .entry)) at (entriesText (now (order .entry)) (now (row .entry))) (now (out .exit)) r
+        PutText (now (out .entry)) at (entriesText (now (order .entry)) (now (row .entry)))
+        (now (out .exit)) r
         ⌝ }
     ensures near { λ r. ⌜ r ≤ at + 42 * length (now (row .entry)) ⌝ }
 {
@@ -57,7 +62,8 @@ pub fn line(out: &mut [u8], at: usize, order: &[u32], v: usize, row: &[Entry]) -
         × RanksIn (now row) (now order)
         ⌝ }
     ensures put { λ r. ⌜
-        Put (now (out .entry)) at (lineText (now (order .entry)) v (now (row .entry))) (now (out .exit)) r
+        PutText (now (out .entry)) at (lineText (now (order .entry)) v (now (row .entry)))
+        (now (out .exit)) r
         ⌝ }
     ensures near { λ r. ⌜ r ≤ at + 42 * length (now (row .entry)) + 21 ⌝ }
 {
@@ -69,7 +75,9 @@ pub fn line(out: &mut [u8], at: usize, order: &[u32], v: usize, row: &[Entry]) -
 // A word and a number behind it.
 pub fn figure(out: &mut [u8], at: usize, word: &[u8], x: usize) -> usize
     requires { ⌜ at + length (now word) + 20 ≤ length (now out) ⌝ }
-    ensures put { λ r. ⌜ Put (now (out .entry)) at (now (word .entry) ++ decimal x) (now (out .exit)) r ⌝ }
+    ensures put { λ r. ⌜
+        PutText (now (out .entry)) at (now (word .entry) ++ decimal x) (now (out .exit)) r
+        ⌝ }
     ensures near { λ r. ⌜ r ≤ at + length (now (word .entry)) + 20 ⌝ }
 {
     let at_number = text::bytes(out, at, word);
@@ -79,7 +87,9 @@ pub fn figure(out: &mut [u8], at: usize, word: &[u8], x: usize) -> usize
 // The first line: n, k, the sum of the counts, the spread.
 pub fn head(out: &mut [u8], n: usize, k: usize, entries: usize, spread: usize) -> usize
     requires { ⌜ 111 ≤ length (now out) ⌝ }
-    ensures put { λ r. ⌜ Put (now (out .entry)) 0 (headText n k entries spread) (now (out .exit)) r ⌝ }
+    ensures put { λ r. ⌜
+        PutText (now (out .entry)) 0 (headText n k entries spread) (now (out .exit)) r
+        ⌝ }
     ensures near { λ r. ⌜ r ≤ 111 ⌝ }
 {
     let at_hubs = figure(out, 0, b"frames ", n);
@@ -92,7 +102,7 @@ pub fn head(out: &mut [u8], n: usize, k: usize, entries: usize, spread: usize) -
 // A refusal: its number alone.
 pub fn refused(out: &mut [u8], number: u32) -> usize
     requires { ⌜ 29 ≤ length (now out) ⌝ }
-    ensures put { λ r. ⌜ Put (now (out .entry)) 0 (refusedText number) (now (out .exit)) r ⌝ }
+    ensures put { λ r. ⌜ PutText (now (out .entry)) 0 (refusedText number) (now (out .exit)) r ⌝ }
     ensures near { λ r. ⌜ r ≤ 29 ⌝ }
 {
     let at_end = figure(out, 0, b"refused ", number as usize);
@@ -104,8 +114,9 @@ pub fn lines(out: &mut [u8], at: usize, order: &[u32], labels: &[Entry], counts:
     requires { ⌜ Shown (now order) (now labels) (now counts) ⌝ }
     requires { ⌜ at + 1365 * length (now counts) ≤ length (now out) ⌝ }
     ensures put { λ r. ⌜
-        Put (now (out .entry)) at
-        (linesText width (now (order .entry)) (now (labels .entry)) (now (counts .entry)) (length (now (counts .entry))))
+        PutText (now (out .entry)) at
+        (linesText (length (now (counts .entry))) width (now (order .entry)) (now (labels .entry))
+        (now (counts .entry)))
         (now (out .exit)) r
         ⌝ }
     ensures near { λ r. ⌜ r ≤ at + 1365 * length (now (counts .entry)) ⌝ }

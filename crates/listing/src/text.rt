@@ -2,12 +2,13 @@
 ghost use Prim.Native.Nat.{_+_, _<_, _≤_};
 ghost use mathlib.Core.List.{[], _∷_};
 ghost use lib.ListN.{length};
-ghost use Rattle.listing.specs.Text.{Put, decimal};
+ghost use Rattle.listing.specs.Inner.{PutText};
+ghost use Rattle.listing.specs.Text.{decimal};
 
 // One byte.
 pub fn byte(out: &mut [u8], at: usize, b: u8) -> usize
     requires { ⌜ at < length (now out) ⌝ }
-    ensures { λ r. ⌜ Put (now (out .entry)) at (b ∷ []) (now (out .exit)) r ⌝ }
+    ensures { λ r. ⌜ PutText (now (out .entry)) at (b ∷ []) (now (out .exit)) r ⌝ }
 {
     out[at] = b;
     at + 1
@@ -16,7 +17,7 @@ pub fn byte(out: &mut [u8], at: usize, b: u8) -> usize
 // Some bytes.
 pub fn bytes(out: &mut [u8], at: usize, text: &[u8]) -> usize
     requires { ⌜ at + length (now text) ≤ length (now out) ⌝ }
-    ensures { λ r. ⌜ Put (now (out .entry)) at (now (text .entry)) (now (out .exit)) r ⌝ }
+    ensures { λ r. ⌜ PutText (now (out .entry)) at (now (text .entry)) (now (out .exit)) r ⌝ }
 {
     let mut i: usize = 0;
     while i < text.len() {
@@ -29,7 +30,7 @@ pub fn bytes(out: &mut [u8], at: usize, text: &[u8]) -> usize
 // A number in decimal, of at most twenty digits.
 pub fn number(out: &mut [u8], at: usize, x: usize) -> usize
     requires { ⌜ at + 20 ≤ length (now out) ⌝ }
-    ensures put { λ r. ⌜ Put (now (out .entry)) at (decimal x) (now (out .exit)) r ⌝ }
+    ensures put { λ r. ⌜ PutText (now (out .entry)) at (decimal x) (now (out .exit)) r ⌝ }
     ensures near { λ r. ⌜ r ≤ at + 20 ⌝ }
 {
     let mut digits = [0u8; 20];

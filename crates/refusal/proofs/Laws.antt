@@ -3,6 +3,7 @@
 use Prim.Native.Nat.{ℕ, zero, suc, _+_, _-_, _≤_, _<_}
 use mathlib.Core.Path.{_≡_, refl, sym, ap, _∙_}
 use mathlib.Core.Bool.{Bool, true, false}
+use mathlib.Core.List.{List}
 use native.Mathlib.Numerals.{add-one}
 use native.Mathlib.Decide.{ℕ-discrete}
 use native.Mathlib.Omega.{arith}
@@ -10,7 +11,7 @@ use borrow.Author.Tests.{eq-eqb, ne-eqb}
 use Rattle.basics.specs.Places.{first}
 use Rattle.basics.proofs.Laws.{by-cases, less-one, end-none, none-end}
 use Rattle.refusal.specs.Tests.{test, _then_, refusal, testsFrom, lowestTest}
-use Rattle.refusal.specs.Told.{Told, verdictTold}
+use Rattle.refusal.specs.Told.{Told, gives, refuses, verdictTold}
 use Rattle.refusal.specs.declared.Refusal.{Refusal}
 use Rattle.refusal.specs.declared.Verdict.{Verdict}
 use Rattle.refusal.specs.declared.Verdict.the-variants.{Fine, Refused}
@@ -35,21 +36,15 @@ unfolding test
 test-held true number place e = refl
 test-held false number place e = fine-not-refused (sym e)
 
-pub fine-then : (next : Verdict) → (Fine then next) ≡ next
-unfolding _then_
-fine-then next = refl
-
-pub refused-then : (r : Refusal) (next : Verdict) → (Refused r then next) ≡ Refused r
-unfolding _then_
-refused-then r next = refl
-
 -- behind a fine verdict the next one decides
 pub after-fine : {v : Verdict} (next : Verdict) → v ≡ Fine → (v then next) ≡ next
-after-fine next e = ap (λ (v : Verdict). v then next) e ∙ fine-then next
+unfolding _then_
+after-fine next e = ap (λ (v : Verdict). v then next) e
 
 -- a refusal stands
 pub after-refused : {v : Verdict} {r : Refusal} (next : Verdict) → v ≡ Refused r → (v then next) ≡ Refused r
-after-refused next e = ap (λ (v : Verdict). v then next) e ∙ refused-then _ next
+unfolding _then_
+after-refused next e = ap (λ (v : Verdict). v then next) e
 
 -- a row of tests is fine exactly if each is
 pub then-fine : (v next : Verdict) → (v then next) ≡ Fine → (v ≡ Fine) × (next ≡ Fine)
@@ -122,24 +117,26 @@ vcase Fine f g = f refl
 vcase (Refused r) f g = g r refl
 
 -- a refusal is told by its number and place
-pub told : (r s : Refusal) → r .number ≡ s .number → r .place ≡ s .place → r ≡ s
-told r s p q = λ i. record { number = p i; place = q i }
+pub refusal-told : (r s : Refusal) → r .number ≡ s .number → r .place ≡ s .place → r ≡ s
+refusal-told r s p q = λ i. record { number = p i; place = q i }
 
 -- ---- success is 0, and nothing else
 
--- a refusal of such tests has a number
+-- an answer whose refusal, if it is one, has a number; `refused` makes an answer of a refusal
+abbrev pub Named : {A : Type 0} → (Refusal → A) → A → Type 0
+Named refused a = (r : Refusal) → a ≡ refused r → 0 < r .number
+
+-- the refusal of such tests has a number
 abbrev pub Numbered : Verdict → Type 0
-Numbered v = (r : Refusal) → v ≡ Refused r → 0 < r .number
+Numbered v = Named Refused v
 
 pub fine-numbered : Numbered Fine
 fine-numbered r e = fine-not-refused e
 
 pub test-numbered : (b : Bool) (number place : ℕ) → 0 < number → Numbered (test b number place)
-unfolding test verdictTold
+unfolding test
 test-numbered true number place h r e = fine-not-refused e
-test-numbered false number place h r e =
-    let same : number ≡ r .number = ap (λ (v : Verdict). verdictTold v .number) e in
-    omega arith
+test-numbered false number place h r e = let same : number ≡ r .number = cc in omega arith
 
 pub then-numbered : (v next : Verdict) → Numbered v → Numbered next → Numbered (v then next)
 unfolding _then_
@@ -151,6 +148,18 @@ unfolding testsFrom
 tests-numbered t each v zero = fine-numbered
 tests-numbered t each v (suc left) = then-numbered _ _ (each v) (tests-numbered t each (suc v) left)
 
+-- what is told of two calls that both succeed differs where their values do
+pub gives-apart : {xs ys : List ℕ} → gives xs ≡ gives ys → xs ≡ ys
+gives-apart e = ap (λ (t : Told). t .values) e
+
+-- of two refusals where they do
+pub refuses-apart : {r s : Refusal} (others : ℕ) → refuses r others ≡ refuses s others → r ≡ s
+refuses-apart others e = refusal-told _ _ (ap (λ (t : Told). t .number) e) (ap (λ (t : Told). t .place) e)
+
+-- and number 0 is no refusal
+pub gives-refuses {ℓ} : {C : Type ℓ} {xs : List ℕ} {r : Refusal} (others : ℕ) → 0 < r .number → gives xs ≡ refuses r others → C
+gives-refuses {r = r} others h e = let none : 0 ≡ r .number = ap (λ (t : Told). t .number) e in absurd (omega arith)
+
 -- so number 0 means fine
 pub numbered-fine : (v : Verdict) → Numbered v → verdictTold v .number ≡ 0 → v ≡ Fine
 unfolding verdictTold
@@ -160,6 +169,7 @@ numbered-fine (Refused r) p e = let some : 0 < r .number = p r refl in absurd (o
 -- and the numbers tell two verdicts apart
 pub verdicts-apart : (a b : Verdict) → Numbered a → Numbered b → verdictTold a ≡ verdictTold b → a ≡ b
 unfolding verdictTold
-verdicts-apart Fine b p q e = sym (numbered-fine b q (sym (ap (λ (t : Told). t .number) e)))
-verdicts-apart (Refused r) Fine p q e = numbered-fine (Refused r) p (ap (λ (t : Told). t .number) e)
-verdicts-apart (Refused r) (Refused s) p q e = ap Refused (told r s (ap (λ (t : Told). t .number) e) (ap (λ (t : Told). t .place) e))
+verdicts-apart Fine Fine p q e = refl
+verdicts-apart Fine (Refused s) p q e = gives-refuses 0 (q s refl) e
+verdicts-apart (Refused r) Fine p q e = gives-refuses 0 (p r refl) (sym e)
+verdicts-apart (Refused r) (Refused s) p q e = ap Refused (refuses-apart 0 e)

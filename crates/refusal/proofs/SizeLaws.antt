@@ -4,7 +4,8 @@ use mathlib.Core.Path.{_≡_}
 use mathlib.Core.Bool.{true}
 use borrow.Author.Tests.{le-leb, leb-true}
 use Rattle.basics.proofs.Laws.{both, both-true}
-use Rattle.refusal.specs.Sizes.{within, framesFit, widthFits, placesFit, sizesFit, Sizes}
+use Rattle.refusal.specs.Sizes.{within, framesFit, widthFits, placesFit, sizesFit}
+use Rattle.refusal.specs.Inner.{Sizes}
 
 within-fits : (least most x : ℕ) → least ≤ x → x ≤ most → within least most x ≡ true
 within-fits least most x low high = both _ _ (le-leb least x low) (le-leb x most high)

@@ -1,3 +1,4 @@
+pub mod Inner
 pub mod Numbers
 pub mod Sizes
 pub mod Tests

@@ -14,7 +14,8 @@ use Rattle.theory.specs.Rows.{Row}
 use Rattle.entry.specs.Entry.{entryOf, encode}
 use Rattle.entry.proofs.Laws.{length-encode, encode-append}
 use Rattle.rows.proofs.Laws.{row-place}
-use Rattle.rows.specs.Laid.{labelsOf, countsOf, Laid}
+use Rattle.rows.specs.Laid.{labelsOf, countsOf}
+use Rattle.rows.specs.Inner.{Laid}
 
 -- ---- entries of a row
 

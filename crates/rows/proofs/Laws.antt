@@ -90,42 +90,42 @@ cut w labels counts v = cut-part w labels v (getD counts v 0)
 -- ---- sound rows
 
 -- what makes the first `count` entries of a list sound: strictly rising ranks below the bound, joins below n
-pub record Sound (bound n : ℕ) (row : List ℕ) (count : ℕ) : Type 0 where
+pub record Sound (n bound : ℕ) (row : List ℕ) (count : ℕ) : Type 0 where
   pub rank : (i : ℕ) → i < count → rankOf (getD row i 0) < bound
   pub joins : (i : ℕ) → i < count → joinsOf (getD row i 0) < n
   pub rising : (i : ℕ) → i + 1 < count → rankOf (getD row i 0) < rankOf (getD row (i + 1) 0)
 
-pub faultless : (bound n : ℕ) (row : List ℕ) (i : ℕ) → rankOf (getD row i 0) < bound → joinsOf (getD row i 0) < n
-    → (0 < i → rankOf (getD row (i - 1) 0) < rankOf (getD row i 0)) → faultyEntry bound n row i ≡ false
+pub faultless : (n bound : ℕ) (row : List ℕ) (i : ℕ) → rankOf (getD row i 0) < bound → joinsOf (getD row i 0) < n
+    → (0 < i → rankOf (getD row (i - 1) 0) < rankOf (getD row i 0)) → faultyEntry n bound row i ≡ false
 unfolding faultyEntry
-faultless bound n row i a b rise =
+faultless n bound row i a b rise =
     neither _ _ (neither _ _ (lt-leb bound _ a) (lt-leb n _ b))
     (lt-or-ge 0 i
     (λ h. rw (lt-ltb 0 i h, lt-leb _ _ (rise h)) refl)
     (λ h. rw (le-ltb 0 i h) refl))
 
-pub faulty-rank : (bound n : ℕ) (row : List ℕ) (i : ℕ) → bound ≤ rankOf (getD row i 0) → faultyEntry bound n row i ≡ true
+pub faulty-rank : (n bound : ℕ) (row : List ℕ) (i : ℕ) → bound ≤ rankOf (getD row i 0) → faultyEntry n bound row i ≡ true
 unfolding faultyEntry
-faulty-rank bound n row i h = either-left _ _ (either-left _ _ (le-leb bound _ h))
+faulty-rank n bound row i h = either-left _ _ (either-left _ _ (le-leb bound _ h))
 
-pub faulty-joins : (bound n : ℕ) (row : List ℕ) (i : ℕ) → n ≤ joinsOf (getD row i 0) → faultyEntry bound n row i ≡ true
+pub faulty-joins : (n bound : ℕ) (row : List ℕ) (i : ℕ) → n ≤ joinsOf (getD row i 0) → faultyEntry n bound row i ≡ true
 unfolding faultyEntry
-faulty-joins bound n row i h = either-left _ _ (either-right (leb bound (rankOf (getD row i 0))) _ (le-leb n _ h))
+faulty-joins n bound row i h = either-left _ _ (either-right (leb bound (rankOf (getD row i 0))) _ (le-leb n _ h))
 
-pub faulty-rise : (bound n : ℕ) (row : List ℕ) (i : ℕ) → 0 < i → rankOf (getD row i 0) ≤ rankOf (getD row (i - 1) 0)
-    → faultyEntry bound n row i ≡ true
+pub faulty-rise : (n bound : ℕ) (row : List ℕ) (i : ℕ) → 0 < i → rankOf (getD row i 0) ≤ rankOf (getD row (i - 1) 0)
+    → faultyEntry n bound row i ≡ true
 unfolding faultyEntry
-faulty-rise bound n row i p h =
+faulty-rise n bound row i p h =
     either-right (leb bound (rankOf (getD row i 0)) || leb n (joinsOf (getD row i 0))) _ (both _ _ (lt-ltb 0 i p) (le-leb _ _ h))
 
-record Faultless (bound n : ℕ) (row : List ℕ) (i : ℕ) : Type 0 where
+record Faultless (n bound : ℕ) (row : List ℕ) (i : ℕ) : Type 0 where
   rank : rankOf (getD row i 0) < bound
   joins : joinsOf (getD row i 0) < n
   rising : 0 < i → rankOf (getD row (i - 1) 0) < rankOf (getD row i 0)
 
-faultless-entry : (bound n : ℕ) (row : List ℕ) (i : ℕ) → faultyEntry bound n row i ≡ false → Faultless bound n row i
+faultless-entry : (n bound : ℕ) (row : List ℕ) (i : ℕ) → faultyEntry n bound row i ≡ false → Faultless n bound row i
 unfolding faultyEntry
-faultless-entry bound n row i e =
+faultless-entry n bound row i e =
     let p : (leb bound (rankOf (getD row i 0)) || leb n (joinsOf (getD row i 0)) ≡ false)
     × (ltb 0 i && leb (rankOf (getD row i 0)) (rankOf (getD row (i - 1) 0)) ≡ false) = either-false _ _ e in
     let q : (leb bound (rankOf (getD row i 0)) ≡ false) × (leb n (joinsOf (getD row i 0)) ≡ false) =
@@ -137,49 +137,49 @@ faultless-entry bound n row i e =
     }
 
 -- under a higher bound it stays so
-pub faultless-higher : {bound higher : ℕ} (n : ℕ) (row : List ℕ) (i : ℕ) → bound ≤ higher → faultyEntry bound n row i ≡ false
-    → faultyEntry higher n row i ≡ false
+pub faultless-higher : {bound higher : ℕ} (n : ℕ) (row : List ℕ) (i : ℕ) → bound ≤ higher → faultyEntry n bound row i ≡ false
+    → faultyEntry n higher row i ≡ false
 faultless-higher {bound} {higher} n row i h e =
-    let f : Faultless bound n row i = faultless-entry bound n row i e in
-    faultless higher n row i (omega (arith, f .rank)) (f .joins) (f .rising)
+    let f : Faultless n bound row i = faultless-entry n bound row i e in
+    faultless n higher row i (omega (arith, f .rank)) (f .joins) (f .rising)
 
 -- a sound row is one under a higher bound too
-pub sound-higher : {bound higher n count : ℕ} {row : List ℕ} → bound ≤ higher → Sound bound n row count → Sound higher n row count
+pub sound-higher : {bound higher n count : ℕ} {row : List ℕ} → bound ≤ higher → Sound n bound row count → Sound n higher row count
 sound-higher h s = record { rank = λ i l. omega (arith, s .rank i l); joins = s .joins; rising = s .rising }
 
-pub sound-of : (bound n : ℕ) (row : List ℕ) (count : ℕ) → some (faultyEntry bound n row) 0 count ≡ false → Sound bound n row count
-sound-of bound n row count e =
-    let one : (i : ℕ) → i < count → Faultless bound n row i =
-    λ i h. faultless-entry bound n row i (some-not (faultyEntry bound n row) 0 count i e (omega arith) (omega arith)) in
+pub sound-of : (n bound : ℕ) (row : List ℕ) (count : ℕ) → some (faultyEntry n bound row) 0 count ≡ false → Sound n bound row count
+sound-of n bound row count e =
+    let one : (i : ℕ) → i < count → Faultless n bound row i =
+    λ i h. faultless-entry n bound row i (some-not (faultyEntry n bound row) 0 count i e (omega arith) (omega arith)) in
     record {
       rank = λ i h. one i h .rank;
       joins = λ i h. one i h .joins;
       rising = λ i h. rw add-sub-cancel at (one (i + 1) h .rising (omega arith));
     }
 
-pub of-sound : (bound n : ℕ) (row : List ℕ) (count : ℕ) → Sound bound n row count → some (faultyEntry bound n row) 0 count ≡ false
-of-sound bound n row count s =
-    some-none (faultyEntry bound n row) 0 count
+pub of-sound : (n bound : ℕ) (row : List ℕ) (count : ℕ) → Sound n bound row count → some (faultyEntry n bound row) 0 count ≡ false
+of-sound n bound row count s =
+    some-none (faultyEntry n bound row) 0 count
     (λ i h k.
-    faultless bound n row i (s .rank i (omega arith)) (s .joins i (omega arith))
+    faultless n bound row i (s .rank i (omega arith)) (s .joins i (omega arith))
     (λ p.
     let e : i - 1 + 1 ≡ i = omega arith in
     rw e at (s .rising (i - 1) (omega arith))))
 
 -- a sound row, taken apart and put together
-pub row-sound : (bound n w : ℕ) (labels counts : List ℕ) (v : ℕ) → soundRow bound n w labels counts v ≡ true
-    → (getD counts v 0 ≤ w) × Sound bound n (rowAt w labels counts v) (getD counts v 0)
+pub row-sound : (n w bound : ℕ) (labels counts : List ℕ) (v : ℕ) → soundRow n w bound labels counts v ≡ true
+    → (getD counts v 0 ≤ w) × Sound n bound (rowAt w labels counts v) (getD counts v 0)
 unfolding soundRow
-row-sound bound n w labels counts v e =
+row-sound n w bound labels counts v e =
     let p : (leb (getD counts v 0) w ≡ true)
-    × (not (some (faultyEntry bound n (rowAt w labels counts v)) 0 (getD counts v 0)) ≡ true) = both-true _ _ e in
-    (leb-true _ _ (p .0), sound-of bound n (rowAt w labels counts v) (getD counts v 0) (not-true _ (p .1)))
+    × (not (some (faultyEntry n bound (rowAt w labels counts v)) 0 (getD counts v 0)) ≡ true) = both-true _ _ e in
+    (leb-true _ _ (p .0), sound-of n bound (rowAt w labels counts v) (getD counts v 0) (not-true _ (p .1)))
 
-pub sound-row : (bound n w : ℕ) (labels counts : List ℕ) (v : ℕ) → getD counts v 0 ≤ w
-    → Sound bound n (rowAt w labels counts v) (getD counts v 0) → soundRow bound n w labels counts v ≡ true
+pub sound-row : (n w bound : ℕ) (labels counts : List ℕ) (v : ℕ) → getD counts v 0 ≤ w
+    → Sound n bound (rowAt w labels counts v) (getD counts v 0) → soundRow n w bound labels counts v ≡ true
 unfolding soundRow
-sound-row bound n w labels counts v h s =
-    both _ _ (le-leb _ _ h) (not-of-false (of-sound bound n (rowAt w labels counts v) (getD counts v 0) s))
+sound-row n w bound labels counts v h s =
+    both _ _ (le-leb _ _ h) (not-of-false (of-sound n bound (rowAt w labels counts v) (getD counts v 0) s))
 
 -- ---- a label room made row by row
 

@@ -12,7 +12,8 @@ use lib.Dec.{eqb}
 use lib.Seq.{drop-cons, drop-length, getD-drop}
 use Rattle.basics.proofs.Laws.{bcase, lt-or-ge, three-ways, cond-true, cond-false, either-left, cases, never-falls}
 use Rattle.entry.specs.Entry.{rankOf, joinsOf}
-use Rattle.rows.specs.Meetings.{Rises, meeting, meetingsAt, meetings, goesBefore, lesserOf, leastFrom, meetingOf, noSum, atRank, pastBy, lesserBy, bestOf}
+use Rattle.rows.specs.Inner.{Rises, noSum, atRank, pastBy, lesserBy, bestOf}
+use Rattle.rows.specs.Meetings.{meeting, meetingsAt, meetings, goesBefore, lesserOf, leastFrom, meetingOf}
 use Rattle.rows.specs.declared.merge.Meeting.{Meeting}
 use Rattle.rows.specs.declared.merge.Best.{Best}
 use Rattle.rows.specs.declared.merge.Best.the-variants.{Nowhere, Meet}

@@ -11,10 +11,11 @@ use Rattle.refusal.specs.declared.Refusal.{Refusal}
 use Rattle.refusal.specs.declared.Verdict.{Verdict}
 use Rattle.refusal.specs.declared.Verdict.the-variants.{Fine, Refused}
 use Rattle.refusal.proofs.Laws.{test-fine, test-refused, test-held, then-fine, after-fine, after-refused}
-use Rattle.rows.specs.Rooms.{Rooms, roomTests, frameTest, frameTests, rowTest, rowAt, soundRow, checkRow}
+use Rattle.rows.specs.Inner.{Rooms, RowIn}
+use Rattle.rows.specs.Rooms.{roomTests, frameTest, frameTests, rowTest, rowAt, soundRow, checkRow}
 use Rattle.rows.specs.Lookup.{rowOf, rowStart}
 use Rattle.rows.specs.Meetings.{meetingOf}
-use Rattle.rows.specs.Pair.{pairTests, pairOf, answered, RowIn}
+use Rattle.rows.specs.Pair.{pairTests, pairOf, answered}
 use Rattle.rows.specs.declared.merge.Best.{Best}
 use Rattle.rows.specs.declared.pair.Answer.the-variants as answers
 use Rattle.rows.proofs.Laws.{Sound, row-sound}
@@ -34,18 +35,18 @@ pub frame-held : (n v place : ℕ) → frameTest n v place ≡ Fine → v < n
 unfolding frameTest
 frame-held n v place e = ltb-true v n (test-held _ FRAME place e)
 
-pub row-fine : (n w : ℕ) (labels counts : List ℕ) (v : ℕ) → soundRow n n w labels counts v ≡ true
-    → rowTest n n w labels counts v ≡ Fine
+pub row-fine : (n w : ℕ) (labels counts : List ℕ) (v : ℕ) → soundRow n w n labels counts v ≡ true
+    → rowTest n w n labels counts v ≡ Fine
 unfolding rowTest
 row-fine n w labels counts v e = test-fine ROW v e
 
-pub row-refused : (n w : ℕ) (labels counts : List ℕ) (v : ℕ) → soundRow n n w labels counts v ≡ false
-    → rowTest n n w labels counts v ≡ Refused (refusal ROW v)
+pub row-refused : (n w : ℕ) (labels counts : List ℕ) (v : ℕ) → soundRow n w n labels counts v ≡ false
+    → rowTest n w n labels counts v ≡ Refused (refusal ROW v)
 unfolding rowTest
 row-refused n w labels counts v e = test-refused ROW v e
 
-pub row-held : (n w : ℕ) (labels counts : List ℕ) (v : ℕ) → rowTest n n w labels counts v ≡ Fine
-    → soundRow n n w labels counts v ≡ true
+pub row-held : (n w : ℕ) (labels counts : List ℕ) (v : ℕ) → rowTest n w n labels counts v ≡ Fine
+    → soundRow n w n labels counts v ≡ true
 unfolding rowTest
 row-held n w labels counts v e = test-held _ ROW v e
 
@@ -56,8 +57,8 @@ pub record Asked (n w : ℕ) (labels counts : List ℕ) (s t : ℕ) : Type 0 whe
   pub rooms : Rooms n w labels counts
   pub first : s < n
   pub second : t < n
-  pub first-sound : soundRow n n w labels counts s ≡ true
-  pub second-sound : soundRow n n w labels counts t ≡ true
+  pub first-sound : soundRow n w n labels counts s ≡ true
+  pub second-sound : soundRow n w n labels counts t ≡ true
 
 module _ (n w : ℕ) (labels counts : List ℕ) (v : ℕ) where
   -- the rooms, and the frame asked
@@ -80,7 +81,7 @@ module _ (n w : ℕ) (labels counts : List ℕ) (v : ℕ) where
   unfolding checkRow
   check-frame e = after-refused _ e
 
-  pub check-row-alone : frameTests n w labels counts v ≡ Fine → checkRow n w labels counts v ≡ rowTest n n w labels counts v
+  pub check-row-alone : frameTests n w labels counts v ≡ Fine → checkRow n w labels counts v ≡ rowTest n w n labels counts v
   unfolding checkRow
   check-row-alone e = after-fine _ e
 
@@ -94,7 +95,7 @@ module _ (n w : ℕ) (labels counts : List ℕ) (s t : ℕ) where
   pair-second e k = after-fine _ e ∙ after-refused _ (frame-refused 1 k)
 
   pub pair-rows : frameTests n w labels counts s ≡ Fine → t < n
-      → pairTests n w labels counts s t ≡ (rowTest n n w labels counts s then rowTest n n w labels counts t)
+      → pairTests n w labels counts s t ≡ (rowTest n w n labels counts s then rowTest n w n labels counts t)
   unfolding pairTests
   pair-rows e k = after-fine _ e ∙ after-fine _ (frame-fine 1 k)
 
@@ -103,7 +104,7 @@ module _ (n w : ℕ) (labels counts : List ℕ) (s t : ℕ) where
   pair-asked e =
       let (frame, rest) = then-fine (frameTests n w labels counts s) _ e in
       let (second, rows) = then-fine (frameTest n t 1) _ rest in
-      let (row, other) = then-fine (rowTest n n w labels counts s) _ rows in
+      let (row, other) = then-fine (rowTest n w n labels counts s) _ rows in
       let (rooms, first) = frame-asked n w labels counts s frame in
       record {
         rooms = rooms;
@@ -124,17 +125,17 @@ asked-fine {n} {w} {labels} {counts} {s} {t} a =
 
 -- every entry of a sound row of such rooms is sound
 pub sound-whole : {n w : ℕ} {labels counts : List ℕ} {v : ℕ} → Rooms n w labels counts → v < n
-    → soundRow n n w labels counts v ≡ true
+    → soundRow n w n labels counts v ≡ true
     → Sound n n (rowAt w labels counts v) (length (rowAt w labels counts v))
 sound-whole {n} {w} {labels} {counts} {v} r h e =
-    let (few, sound) = row-sound n n w labels counts v e in
+    let (few, sound) = row-sound n w n labels counts v e in
     rw (length-row r v h few) sound
 
 -- it is fit for the merge
 pub row-in : {n w : ℕ} {labels counts : List ℕ} {v : ℕ} → Rooms n w labels counts → v < n
-    → soundRow n n w labels counts v ≡ true → RowIn w labels counts v
+    → soundRow n w n labels counts v ≡ true → RowIn w labels counts v
 row-in {n} {w} {labels} {counts} {v} r h e = record {
-  row = row-lies r v h (row-sound n n w labels counts v e .0);
+  row = row-lies r v h (row-sound n w n labels counts v e .0);
   rises = record { next = sound-whole r h e .rising };
 }
 
@@ -146,7 +147,7 @@ checked-row n w labels counts v e =
     let (frame, row) = then-fine (frameTests n w labels counts v) _ e in
     let (rooms, inside) = frame-asked n w labels counts v frame in
     let sound = row-held n w labels counts v row in
-    (row-in rooms inside sound, length-row rooms v inside (row-sound n n w labels counts v sound .0))
+    (row-in rooms inside sound, length-row rooms v inside (row-sound n w n labels counts v sound .0))
 
 -- what is handed back by what the check says
 pub row-by : (n w : ℕ) (labels counts : List ℕ) (v : ℕ) {x : Verdict} → checkRow n w labels counts v ≡ x

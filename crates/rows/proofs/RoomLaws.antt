@@ -10,13 +10,15 @@ use lib.Dec.{eqb}
 use Rattle.basics.specs.Places.{sum, first, some}
 use Rattle.basics.proofs.Laws.{bcase, cond-true, both-true, both, not-of-true}
 use Rattle.refusal.specs.Numbers.{SIZE, LENGTH, ROW}
-use Rattle.refusal.specs.Sizes.{sizesFit, Sizes}
+use Rattle.refusal.specs.Sizes.{sizesFit}
+use Rattle.refusal.specs.Inner.{Sizes}
 use Rattle.refusal.specs.Tests.{test, refusal}
 use Rattle.refusal.specs.declared.Refusal.{Refusal}
 use Rattle.refusal.specs.declared.Verdict.the-variants.{Fine, Refused}
 use Rattle.refusal.proofs.Laws.{test-fine, test-refused, test-held, then-fine, after-fine, after-refused, lowest-fine, lowest-refused, lowest-none, none-lowest}
 use Rattle.refusal.proofs.SizeLaws.{sizes-fit, sizes-held}
-use Rattle.rows.specs.Rooms.{totalOf, Rooms, RowLies, roomsFit, roomTests, rowsTest, checkRows, partOf, rowAt, soundRow, unsound, faultyEntry}
+use Rattle.rows.specs.Rooms.{totalOf, roomsFit, roomTests, rowsTest, checkRows, partOf, rowAt, soundRow, unsound, faultyEntry}
+use Rattle.rows.specs.Inner.{Rooms, RowLies}
 use Rattle.rows.proofs.Laws.{row-ends, in-room, length-used}
 
 rooms-fit : (n w : ℕ) (labels counts : List ℕ) → length labels ≡ n * w → length counts ≡ n → roomsFit n w labels counts ≡ true
@@ -61,27 +63,27 @@ fine-rooms n w labels counts e =
     record { sizes = sizes-held n w (test-held _ SIZE 0 (both .0)); places = r .0; each = r .1 }
 
 -- for a caller that made the first two tests itself, the test of all rows is the third alone
-pub rows-alone : (bound n w : ℕ) (labels counts : List ℕ) → Rooms n w labels counts
-    → checkRows bound n w labels counts ≡ rowsTest bound n w labels counts
+pub rows-alone : (n w bound : ℕ) (labels counts : List ℕ) → Rooms n w labels counts
+    → checkRows n w bound labels counts ≡ rowsTest n w bound labels counts
 unfolding checkRows
-rows-alone bound n w labels counts r = after-fine _ (rooms-fine r)
+rows-alone n w bound labels counts r = after-fine _ (rooms-fine r)
 
 -- 9 for all rows: the first that is not sound, if there is one
 module _ (bound : ℕ) {n w : ℕ} {labels counts : List ℕ} (r : Rooms n w labels counts) {v : ℕ}
-    (e : v ≡ first (unsound bound n w labels counts) 0 n) where
-  pub rows-fine : v ≡ n → checkRows bound n w labels counts ≡ Fine
+    (e : v ≡ first (unsound n w bound labels counts) 0 n) where
+  pub rows-fine : v ≡ n → checkRows n w bound labels counts ≡ Fine
   unfolding rowsTest
-  rows-fine h = rows-alone bound n w labels counts r ∙ lowest-fine _ n ROW e h
+  rows-fine h = rows-alone n w bound labels counts r ∙ lowest-fine _ n ROW e h
 
-  pub rows-refused : (v ≡ n → ⊥) → checkRows bound n w labels counts ≡ Refused (refusal ROW v)
+  pub rows-refused : (v ≡ n → ⊥) → checkRows n w bound labels counts ≡ Refused (refusal ROW v)
   unfolding rowsTest
-  rows-refused h = rows-alone bound n w labels counts r ∙ lowest-refused _ n ROW e h
+  rows-refused h = rows-alone n w bound labels counts r ∙ lowest-refused _ n ROW e h
 
 -- 1 or 2 for all rows
-pub rooms-refused : (bound n w : ℕ) (labels counts : List ℕ) {r : Refusal} → roomTests n w labels counts ≡ Refused r
-    → checkRows bound n w labels counts ≡ Refused r
+pub rooms-refused : (n w bound : ℕ) (labels counts : List ℕ) {r : Refusal} → roomTests n w labels counts ≡ Refused r
+    → checkRows n w bound labels counts ≡ Refused r
 unfolding checkRows
-rooms-refused bound n w labels counts e = after-refused _ e
+rooms-refused n w bound labels counts e = after-refused _ e
 
 -- the used part of a row of such rooms
 module _ {n w : ℕ} {labels counts : List ℕ} (r : Rooms n w labels counts) (v : ℕ) (h : v < n) (k : getD counts v 0 ≤ w) where
@@ -98,35 +100,35 @@ module _ {n w : ℕ} {labels counts : List ℕ} (r : Rooms n w labels counts) (v
   length-row = length-used labels counts (r .places) h k
 
   pub sound-by-entries : (bound : ℕ)
-      → soundRow bound n w labels counts v
-      ≡ not (some (faultyEntry bound n (rowAt w labels counts v)) 0 (length (rowAt w labels counts v)))
+      → soundRow n w bound labels counts v
+      ≡ not (some (faultyEntry n bound (rowAt w labels counts v)) 0 (length (rowAt w labels counts v)))
   unfolding soundRow
   sound-by-entries bound = rw (length-row, le-leb (getD counts v 0) w k) refl
 
 -- 9: a count over W
-pub count-unsound : (bound n w : ℕ) (labels counts : List ℕ) (v : ℕ) → w < getD counts v 0
-    → soundRow bound n w labels counts v ≡ false
+pub count-unsound : (n w bound : ℕ) (labels counts : List ℕ) (v : ℕ) → w < getD counts v 0
+    → soundRow n w bound labels counts v ≡ false
 unfolding soundRow
-count-unsound bound n w labels counts v h = rw (lt-leb (getD counts v 0) w h) refl
+count-unsound n w bound labels counts v h = rw (lt-leb (getD counts v 0) w h) refl
 
 -- 9 for all rows is fine exactly if each is sound
-pub all-sound : (bound n w : ℕ) (labels counts : List ℕ) → rowsTest bound n w labels counts ≡ Fine
-    → (v : ℕ) → v < n → soundRow bound n w labels counts v ≡ true
+pub all-sound : (n w bound : ℕ) (labels counts : List ℕ) → rowsTest n w bound labels counts ≡ Fine
+    → (v : ℕ) → v < n → soundRow n w bound labels counts v ≡ true
 unfolding rowsTest
-all-sound bound n w labels counts e v h = not-false _ (lowest-none _ n ROW e v h)
+all-sound n w bound labels counts e v h = not-false _ (lowest-none _ n ROW e v h)
 
-pub sound-all : (bound n w : ℕ) (labels counts : List ℕ) → ((v : ℕ) → v < n → soundRow bound n w labels counts v ≡ true)
-    → rowsTest bound n w labels counts ≡ Fine
+pub sound-all : (n w bound : ℕ) (labels counts : List ℕ) → ((v : ℕ) → v < n → soundRow n w bound labels counts v ≡ true)
+    → rowsTest n w bound labels counts ≡ Fine
 unfolding rowsTest
-sound-all bound n w labels counts sound = none-lowest _ n ROW (λ v h. not-of-true (sound v h))
+sound-all n w bound labels counts sound = none-lowest _ n ROW (λ v h. not-of-true (sound v h))
 
 -- what the test of all rows lets through
-pub rows-sound : (bound n w : ℕ) (labels counts : List ℕ) → checkRows bound n w labels counts ≡ Fine
-    → Rooms n w labels counts × ((v : ℕ) → v < n → soundRow bound n w labels counts v ≡ true)
+pub rows-sound : (n w bound : ℕ) (labels counts : List ℕ) → checkRows n w bound labels counts ≡ Fine
+    → Rooms n w labels counts × ((v : ℕ) → v < n → soundRow n w bound labels counts v ≡ true)
 unfolding checkRows
-rows-sound bound n w labels counts e =
+rows-sound n w bound labels counts e =
     let (rooms, rows) = then-fine (roomTests n w labels counts) _ e in
-    (fine-rooms n w labels counts rooms, all-sound bound n w labels counts rows)
+    (fine-rooms n w labels counts rooms, all-sound n w bound labels counts rows)
 
 -- the sum of a room that is not too long for an index
 pub total-sum : (counts : List ℕ) → length counts ≤ 4096 → totalOf counts ≡ sum counts

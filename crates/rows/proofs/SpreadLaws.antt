@@ -1,5 +1,5 @@
 -- The laws of the spread: in a row of rising ranks, rank 0 can only stand first.
-use Prim.Native.Nat.{ℕ, zero, suc, _*_, _≤_, _<_}
+use Prim.Native.Nat.{ℕ, zero, suc, _*_, _<_}
 use mathlib.Core.Path.{_≡_, refl, sym, ap}
 use mathlib.Core.Bool.{true}
 use mathlib.Core.List.{List, [], _∷_}
@@ -13,11 +13,11 @@ use Rattle.basics.proofs.Laws.{bcase}
 use Rattle.refusal.specs.declared.Refusal.{Refusal}
 use Rattle.refusal.specs.declared.Verdict.{Verdict}
 use Rattle.refusal.specs.declared.Verdict.the-variants as verdicts
-use Rattle.refusal.proofs.Laws.{Numbered}
+use Rattle.refusal.proofs.Laws.{Named, Numbered, gives-apart, refuses-apart, gives-refuses}
 use Rattle.entry.specs.Entry.{rankOf}
-use Rattle.rows.specs.Meetings.{Rises}
-use Rattle.rows.specs.Rooms.{Rooms, part, rowAt, soundRow, checkRows}
-use Rattle.rows.specs.Spread.{joinsAtZero, farthestIn, frontJoins, farthest, spreadFigure, spreadBy, spreadOf, spreadTold, SpreadTold}
+use Rattle.rows.specs.Inner.{Rises, Rooms, frontJoins}
+use Rattle.rows.specs.Rooms.{part, rowAt, soundRow, checkRows}
+use Rattle.rows.specs.Spread.{joinsAtZero, farthestIn, farthest, spreadFigure, spreadBy, spreadOf, spreadTold}
 use Rattle.rows.specs.declared.spread.SpreadAnswer.{SpreadAnswer}
 use Rattle.rows.specs.declared.spread.SpreadAnswer.the-variants.{Spread, Refused}
 use Rattle.entry.proofs.Laws.{joins-small}
@@ -46,7 +46,7 @@ farthest-front (e ∷ es) r =
     omega arith
 
 pub sound-front : {n w : ℕ} {labels counts : List ℕ} {v : ℕ} → Rooms n w labels counts → v < n
-    → soundRow n n w labels counts v ≡ true → farthestIn (rowAt w labels counts v) ≡ frontJoins (rowAt w labels counts v)
+    → soundRow n w n labels counts v ≡ true → farthestIn (rowAt w labels counts v) ≡ frontJoins (rowAt w labels counts v)
 sound-front r h e = farthest-front _ (row-in r h e .rises)
 
 -- the front of a row as it lies in the room
@@ -82,43 +82,39 @@ farthest-small w labels counts (suc v) = omega (arith, small-in (rowAt w labels 
 
 -- the answer behind the tests
 module _ (n w : ℕ) (labels counts : List ℕ) where
-  pub spread-fine : {d : ℕ} → checkRows n n w labels counts ≡ verdicts.Fine → d ≡ farthest w labels counts n
+  pub spread-fine : {d : ℕ} → checkRows n w n labels counts ≡ verdicts.Fine → d ≡ farthest w labels counts n
       → Spread (2 * d) ≡ spreadOf n w labels counts
   unfolding spreadOf spreadBy spreadFigure
   spread-fine e f = λ i. spreadBy (sym e i) (2 * f i)
 
   -- so it is the figure where every row is sound
-  pub spread-sound : checkRows n n w labels counts ≡ verdicts.Fine → spreadOf n w labels counts ≡ Spread (spreadFigure n w labels counts)
+  pub spread-sound : checkRows n w n labels counts ≡ verdicts.Fine → spreadOf n w labels counts ≡ Spread (spreadFigure n w labels counts)
   unfolding spreadFigure
   spread-sound e = sym (spread-fine e refl)
 
-  pub spread-refused : {r : Refusal} → checkRows n n w labels counts ≡ verdicts.Refused r
+  pub spread-refused : {r : Refusal} → checkRows n w n labels counts ≡ verdicts.Refused r
       → Refused r ≡ spreadOf n w labels counts
   unfolding spreadOf spreadBy
   spread-refused e = λ i. spreadBy (sym e i) (spreadFigure n w labels counts)
 
 -- ---- the paper's numbers tell
 
--- a refusal has a number of its own
-unfoldable pub SpreadNamed : SpreadAnswer → Type 0
-SpreadNamed (Spread d) = Unit {0}
-SpreadNamed (Refused r) = 1 ≤ r .number
-
 -- answers with the same numbers are the same
-pub spread-told-apart : (a b : SpreadAnswer) → SpreadNamed a → SpreadNamed b → spreadTold a ≡ spreadTold b → a ≡ b
-unfolding spreadTold SpreadNamed
-spread-told-apart (Spread d) (Spread k) p q e = ap (λ (x : SpreadTold). Spread (x .spread)) e
-spread-told-apart (Spread d) (Refused r) p q e = absurd (omega (arith, ap (λ (x : SpreadTold). x .number) e))
-spread-told-apart (Refused r) (Spread k) p q e = absurd (omega (arith, ap (λ (x : SpreadTold). x .number) e))
-spread-told-apart (Refused r) (Refused s) p q e = λ i. Refused record { number = e i .number; place = e i .place }
+pub spread-apart : (a b : SpreadAnswer) → Named Refused a → Named Refused b → spreadTold a ≡ spreadTold b → a ≡ b
+unfolding spreadTold
+spread-apart (Spread d) (Spread k) p q e = ap (λ (vs : List ℕ). Spread (getD vs 0 0)) (gives-apart e)
+spread-apart (Spread d) (Refused r) p q e = gives-refuses 1 (q r refl) e
+spread-apart (Refused r) (Spread k) p q e = gives-refuses 1 (p r refl) (sym e)
+spread-apart (Refused r) (Refused s) p q e = ap Refused (refuses-apart 1 e)
 
-named-by : (v : Verdict) (d : ℕ) → Numbered v → SpreadNamed (spreadBy v d)
-unfolding SpreadNamed spreadBy
-named-by verdicts.Fine d p = tt
-named-by (verdicts.Refused r) d p = p r refl
+-- a refusal's number is that of its test
+named-by : (v : Verdict) (d : ℕ) → Numbered v → Named Refused (spreadBy v d)
+unfolding spreadBy
+named-by verdicts.Fine d p r e = let z : _≡_ {A = ℕ} 0 1 = cc in absurd (omega arith)
+named-by (verdicts.Refused s) d p r e = p r cc
 
--- every answer of the spread question is so named
-pub spread-named : (n w : ℕ) (labels counts : List ℕ) → SpreadNamed (spreadOf n w labels counts)
+-- every refusal of the spread question has a number
+pub spread-named : (n w : ℕ) (labels counts : List ℕ) → Named Refused (spreadOf n w labels counts)
 unfolding spreadOf
 spread-named n w labels counts =
-    named-by (checkRows n n w labels counts) (spreadFigure n w labels counts) (rows-numbered n n w labels counts)
+    named-by (checkRows n w n labels counts) (spreadFigure n w labels counts) (rows-numbered n w n labels counts)

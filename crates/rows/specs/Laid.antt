@@ -19,8 +19,3 @@ labelsOf n w R = table (n * w) (λ p. getD (encode (R (p / w))) (p % w) 0)
 -- count room: for each frame the number of entries in its row
 unfoldable pub countsOf : ℕ → (ℕ → Row) → List ℕ
 countsOf n R = table n (λ v. length (R v))
-
--- the two rooms hold these rows and nothing else
-pub record Laid (n w : ℕ) (R : ℕ → Row) (labels counts : List ℕ) : Type 0 where
-  pub rows : labels ≡ labelsOf n w R
-  pub numbers : counts ≡ countsOf n R

@@ -1,3 +1,4 @@
+pub mod Inner
 pub mod Laid
 pub mod Lookup
 pub mod Meetings

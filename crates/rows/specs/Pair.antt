@@ -1,13 +1,13 @@
 -- The pair question: its tests, its answer, and the paper's numbers for each case of the answer.
 use Prim.Native.Nat.{ℕ}
-use mathlib.Core.Bool.{Bool, true, false}
-use mathlib.Core.List.{List}
+use mathlib.Core.List.{List, [], _∷_}
 use Rattle.refusal.specs.Tests.{_then_}
+use Rattle.refusal.specs.Told.{Told, gives, refuses}
 use Rattle.refusal.specs.declared.Verdict.{Verdict}
 use Rattle.refusal.specs.declared.Verdict.the-variants.{Fine, Refused}
 use Rattle.theory.specs.Chains.{Count, joins, none}
-use Rattle.rows.specs.Rooms.{frameTest, frameTests, rowTest, rowAt, RowLies}
-use Rattle.rows.specs.Meetings.{Rises, meetingOf}
+use Rattle.rows.specs.Rooms.{frameTest, frameTests, rowTest, rowAt}
+use Rattle.rows.specs.Meetings.{meetingOf}
 use Rattle.rows.specs.declared.merge.Best.{Best}
 use Rattle.rows.specs.declared.merge.Best.the-variants.{Nowhere, Meet}
 use Rattle.rows.specs.declared.pair.Answer.{Answer}
@@ -18,8 +18,8 @@ unfoldable pub pairTests : ℕ → ℕ → List ℕ → List ℕ → ℕ → ℕ
 pairTests n w labels counts s t =
     frameTests n w labels counts s
     then frameTest n t 1
-    then rowTest n n w labels counts s
-    then rowTest n n w labels counts t
+    then rowTest n w n labels counts s
+    then rowTest n w n labels counts t
 
 -- behind fine tests: the least sum of joins over ranks found in both rows; "none" if no rank is shared
 unfoldable pub answered : Verdict → Best → Answer
@@ -32,26 +32,14 @@ unfoldable pub pairOf : ℕ → ℕ → List ℕ → List ℕ → ℕ → ℕ �
 pairOf n w labels counts s t =
     answered (pairTests n w labels counts s t) (meetingOf (rowAt w labels counts s) (rowAt w labels counts t))
 
--- the paper's numbers: a number, a place, whether a rank is shared, and the joins
-pub record Told : Type 0 where
-  pub number : ℕ
-  pub place : ℕ
-  pub found : Bool
-  pub joins : ℕ
-
--- success is 0; each refusal also gives a place; any other number that the call hands back is then 0
-unfoldable pub told : Answer → Told
-told (answers.Joins j) = record { number = 0; place = 0; found = true; joins = j }
-told answers.None = record { number = 0; place = 0; found = false; joins = 0 }
-told (answers.Refused r) = record { number = r .number; place = r .place; found = false; joins = 0 }
+-- the paper's numbers: whether a rank is shared, 1 or 0, and the joins
+unfoldable pub pairTold : Answer → Told
+pairTold (answers.Joins j) = gives (1 ∷ j ∷ [])
+pairTold answers.None = gives (0 ∷ 0 ∷ [])
+pairTold (answers.Refused r) = refuses r 2
 
 -- what an answer says: its joins, or none
 unfoldable pub saidOf : Answer → Count
 saidOf (answers.Joins j) = joins j
 saidOf answers.None = none
 saidOf (answers.Refused r) = none
-
--- a row that lies in the room with rising ranks: what the merge is handed
-pub record RowIn (w : ℕ) (labels counts : List ℕ) (v : ℕ) : Type 0 where
-  pub row : RowLies w labels counts v
-  pub rises : Rises (rowAt w labels counts v)

@@ -5,6 +5,7 @@ use mathlib.Core.List.{List, [], _∷_}
 use lib.Dec.{eqb}
 use Rattle.refusal.specs.declared.Verdict.{Verdict}
 use Rattle.refusal.specs.declared.Verdict.the-variants as verdicts
+use Rattle.refusal.specs.Told.{Told, gives, refuses}
 use Rattle.entry.specs.Entry.{rankOf, joinsOf}
 use Rattle.rows.specs.Rooms.{rowAt, checkRows}
 use Rattle.rows.specs.declared.spread.SpreadAnswer.{SpreadAnswer}
@@ -18,11 +19,6 @@ joinsAtZero e = cond (eqb (rankOf e) 0) (joinsOf e) 0
 unfoldable pub farthestIn : List ℕ → ℕ
 farthestIn [] = 0
 farthestIn (e ∷ es) = max (joinsAtZero e) (farthestIn es)
-
--- the joins of a row's first entry if it is of rank 0, or 0
-unfoldable pub frontJoins : List ℕ → ℕ
-frontJoins [] = 0
-frontJoins (e ∷ es) = joinsAtZero e
 
 -- the largest joins among the used entries of rank 0 of the rows below v, or 0
 unfoldable pub farthest : ℕ → List ℕ → List ℕ → ℕ → ℕ
@@ -40,15 +36,9 @@ spreadBy (verdicts.Refused r) spread = Refused r
 
 -- spread: 1, 2, 9 (lowest frame)
 unfoldable pub spreadOf : ℕ → ℕ → List ℕ → List ℕ → SpreadAnswer
-spreadOf n w labels counts = spreadBy (checkRows n n w labels counts) (spreadFigure n w labels counts)
+spreadOf n w labels counts = spreadBy (checkRows n w n labels counts) (spreadFigure n w labels counts)
 
--- the paper's numbers: a number, a place and the spread
-pub record SpreadTold : Type 0 where
-  pub number : ℕ
-  pub place : ℕ
-  pub spread : ℕ
-
--- success is 0; each refusal also gives a place; any other number that the call hands back is then 0
-unfoldable pub spreadTold : SpreadAnswer → SpreadTold
-spreadTold (Spread d) = record { number = 0; place = 0; spread = d }
-spreadTold (Refused r) = record { number = r .number; place = r .place; spread = 0 }
+-- the paper's numbers: the spread
+unfoldable pub spreadTold : SpreadAnswer → Told
+spreadTold (Spread d) = gives (d ∷ [])
+spreadTold (Refused r) = refuses r 1

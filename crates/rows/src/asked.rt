@@ -2,7 +2,8 @@
 ghost use mathlib.Core.Path.{_≡_};
 ghost use Prim.Native.Nat.{_<_};
 ghost use Rattle.rows.specs.Pair.{pairTests};
-ghost use Rattle.rows.specs.Rooms.{Rooms, frameTests, rowTest};
+ghost use Rattle.rows.specs.Inner.{Rooms};
+ghost use Rattle.rows.specs.Rooms.{frameTests, rowTest};
 use crate::rooms::check_rooms;
 use crate::sound::sound_row;
 use entry::Entry;
@@ -28,9 +29,9 @@ pub fn check_frame(n: usize, w: usize, labels: &[Entry], counts: &[u32], v: usiz
 // 9: the row of a frame asked.
 pub fn check_entries(n: usize, w: usize, labels: &[Entry], counts: &[u32], v: usize) -> Verdict
     requires { ⌜ Rooms n w (now labels) (now counts) × (v < n) ⌝ }
-    ensures { λ r. ⌜ r ≡ rowTest n n w (now (labels .entry)) (now (counts .entry)) v ⌝ }
+    ensures { λ r. ⌜ r ≡ rowTest n w n (now (labels .entry)) (now (counts .entry)) v ⌝ }
 {
-    if sound_row(n, n, w, labels, counts, v) {
+    if sound_row(n, w, n, labels, counts, v) {
         return Verdict::Fine;
     }
     refused(ROW, v)

@@ -12,15 +12,18 @@ use refusal::ROW;
 use refusal::Verdict;
 
 // The test of all rows for a rank bound: 1, 2, and 9 with the lowest frame whose row is not sound.
-pub fn check_rows(bound: usize, n: usize, w: usize, labels: &[Entry], counts: &[u32]) -> Verdict
-    ensures answer { λ r. ⌜ r ≡ checkRows bound n w (now (labels .entry)) (now (counts .entry)) ⌝ }
-    ensures numbers { λ r. ⌜ verdictTold r ≡ verdictTold (checkRows bound n w (now (labels .entry)) (now (counts .entry))) ⌝ }
+pub fn check_rows(n: usize, w: usize, bound: usize, labels: &[Entry], counts: &[u32]) -> Verdict
+    ensures answer { λ r. ⌜ r ≡ checkRows n w bound (now (labels .entry)) (now (counts .entry)) ⌝ }
+    ensures numbers { λ r. ⌜
+        verdictTold r
+        ≡ verdictTold (checkRows n w bound (now (labels .entry)) (now (counts .entry)))
+        ⌝ }
 {
     let rooms = check_rooms(n, w, labels, counts);
     let Verdict::Fine = rooms else {
         return rooms;
     };
-    let v = first_unsound(bound, n, w, labels, counts);
+    let v = first_unsound(n, w, bound, labels, counts);
     if v == n {
         Verdict::Fine
     } else {
@@ -31,7 +34,9 @@ pub fn check_rows(bound: usize, n: usize, w: usize, labels: &[Entry], counts: &[
 // The row check: 1, 2, 8, 9.
 pub fn check_row(n: usize, w: usize, labels: &[Entry], counts: &[u32], v: usize) -> Verdict
     ensures answer { λ r. ⌜ r ≡ checkRow n w (now (labels .entry)) (now (counts .entry)) v ⌝ }
-    ensures numbers { λ r. ⌜ verdictTold r ≡ verdictTold (checkRow n w (now (labels .entry)) (now (counts .entry)) v) ⌝ }
+    ensures numbers { λ r. ⌜
+        verdictTold r ≡ verdictTold (checkRow n w (now (labels .entry)) (now (counts .entry)) v)
+        ⌝ }
 {
     let frame = check_frame(n, w, labels, counts, v);
     let Verdict::Fine = frame else {

@@ -11,7 +11,9 @@ use entry::Entry;
 pub fn cut(labels: &[Entry], w: usize, v: usize, count: usize) -> &[Entry]
     requires { ⌜ v * w + count ≤ length (now labels) ⌝ }
     ensures entries { λ r. ⌜ now r ≡ part w (now (labels .entry)) v count ⌝ }
-    ensures lies { λ r. ⌜ ptr r ≡ (ptr (labels .entry) .0, v * w * entryBytes + ptr (labels .entry) .1) ⌝ }
+    ensures lies { λ r. ⌜
+        ptr r ≡ (ptr (labels .entry) .0, v * w * entryBytes + ptr (labels .entry) .1)
+        ⌝ }
 {
     let start = v * w;
     let end = start + count;

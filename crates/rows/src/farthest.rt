@@ -4,7 +4,7 @@ ghost use mathlib.Core.Path.{_≡_};
 ghost use Prim.Native.Nat.{_*_, _<_, max};
 ghost use lib.ListN.{length};
 ghost use Rattle.rows.specs.Rooms.{rowAt};
-ghost use Rattle.rows.specs.Spread.{frontJoins};
+ghost use Rattle.rows.specs.Inner.{frontJoins};
 use entry::Entry;
 use entry::joins_of;
 use entry::rank_of;

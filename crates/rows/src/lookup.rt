@@ -22,7 +22,8 @@ pub fn row<'a, 'b>(
         ptr r
         ≡ (
           ptr (labels .entry) .0,
-          rowStart n w (now (labels .entry)) (now (counts .entry)) v * entryBytes + ptr (labels .entry) .1,
+          rowStart n w (now (labels .entry)) (now (counts .entry)) v * entryBytes
+              + ptr (labels .entry) .1,
         )
         ⌝ }
 {

@@ -2,8 +2,8 @@
 // their ranks rise, so that the lesser of two ranks stands in one row alone. Which row goes on is not foreseeable, so that
 // a turn has one path: each row's step and the lesser meeting are chosen, not branched to.
 ghost use mathlib.Core.Path.{_≡_};
-ghost use Rattle.rows.specs.Meetings.{atRank, bestOf, lesserBy, meetingOf, pastBy, Rises};
-ghost use Rattle.rows.specs.Pair.{RowIn};
+ghost use Rattle.rows.specs.Inner.{atRank, bestOf, lesserBy, pastBy, Rises, RowIn};
+ghost use Rattle.rows.specs.Meetings.{meetingOf};
 ghost use Rattle.rows.specs.Rooms.{rowAt};
 use crate::cut::cut;
 use entry::Entry;
@@ -11,7 +11,7 @@ use entry::joins_of;
 use entry::rank_of;
 
 // Above every sum of the joins of two entries: no meeting.
-const NO_SUM: usize = 131072;
+const NO_SUM: usize = 2 * entry::RANK_STEP_WIDE;
 
 // A rank that is in both rows, and the sum of its joins.
 pub struct Meeting {

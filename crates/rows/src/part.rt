@@ -12,10 +12,10 @@ use entry::Entry;
 fn in_room(labels: &[Entry], w: usize, v: usize, count: usize) -> bool
     ensures { λ r. ⌜ r ≡ inRoom w (now (labels .entry)) v count ⌝ }
 {
-    if 4096 <= v {
+    if refusal::sizes::MOST_FRAMES <= v {
         return false;
     }
-    if 256 < w {
+    if refusal::sizes::MOST_WIDTH < w {
         return false;
     }
     let start = v * w;
@@ -29,7 +29,12 @@ fn in_room(labels: &[Entry], w: usize, v: usize, count: usize) -> bool
 pub fn row_part(labels: &[Entry], w: usize, v: usize, count: usize) -> &[Entry]
     ensures entries { λ r. ⌜ now r ≡ partOf w (now (labels .entry)) v count ⌝ }
     ensures lies { λ r. ⌜
-        ptr r ≡ (ptr (labels .entry) .0, partStart w (now (labels .entry)) v count * entryBytes + ptr (labels .entry) .1)
+        ptr r
+        ≡ (
+          ptr (labels .entry) .0,
+          partStart w (now (labels .entry)) v count * entryBytes
+              + ptr (labels .entry) .1,
+        )
         ⌝ }
 {
     let lies = in_room(labels, w, v, count);

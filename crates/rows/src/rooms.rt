@@ -3,6 +3,7 @@
 ghost use mathlib.Core.Path.{_≡_};
 ghost use Prim.Native.Nat.{_*_, _≤_};
 ghost use Rattle.refusal.specs.Told.{verdictTold};
+ghost use Rattle.refusal.specs.Sizes.{mostFrames};
 ghost use Rattle.rows.specs.Rooms.{roomTests, totalOf};
 use entry::Entry;
 use refusal;
@@ -13,7 +14,9 @@ use refusal::Verdict;
 // 1 and 2 for a label room and a count room.
 pub fn check_rooms(n: usize, w: usize, labels: &[Entry], counts: &[u32]) -> Verdict
     ensures answer { λ r. ⌜ r ≡ roomTests n w (now (labels .entry)) (now (counts .entry)) ⌝ }
-    ensures numbers { λ r. ⌜ verdictTold r ≡ verdictTold (roomTests n w (now (labels .entry)) (now (counts .entry))) ⌝ }
+    ensures numbers { λ r. ⌜
+        verdictTold r ≡ verdictTold (roomTests n w (now (labels .entry)) (now (counts .entry)))
+        ⌝ }
 {
     let sizes = refusal::sizes::sizes_fit(n, w);
     if !sizes {
@@ -31,9 +34,9 @@ pub fn check_rooms(n: usize, w: usize, labels: &[Entry], counts: &[u32]) -> Verd
 
 // The sum of all counts; 0 for a room of over 4,096, which no index has.
 pub fn total(counts: &[u32]) -> usize
-    ensures { λ r. ⌜ (r ≡ totalOf (now (counts .entry))) × (r ≤ 4096 * 4294967296) ⌝ }
+    ensures { λ r. ⌜ (r ≡ totalOf (now (counts .entry))) × (r ≤ mostFrames * 4294967296) ⌝ }
 {
-    if 4096 < counts.len() {
+    if refusal::sizes::MOST_FRAMES < counts.len() {
         return 0;
     }
     let mut entries: usize = 0;

@@ -20,7 +20,9 @@ pub enum SpreadAnswer {
 // front is read before its test, so that the test does not wait for it.
 pub fn spread(n: usize, w: usize, labels: &[Entry], counts: &[u32]) -> SpreadAnswer
     ensures answer { λ r. ⌜ r ≡ spreadOf n w (now (labels .entry)) (now (counts .entry)) ⌝ }
-    ensures numbers { λ r. ⌜ spreadTold r ≡ spreadTold (spreadOf n w (now (labels .entry)) (now (counts .entry))) ⌝ }
+    ensures numbers { λ r. ⌜
+        spreadTold r ≡ spreadTold (spreadOf n w (now (labels .entry)) (now (counts .entry)))
+        ⌝ }
 {
     let rooms = check_rooms(n, w, labels, counts);
     if let Verdict::Refused(refusal) = rooms {
@@ -30,7 +32,7 @@ pub fn spread(n: usize, w: usize, labels: &[Entry], counts: &[u32]) -> SpreadAns
     let mut v: usize = 0;
     while v < n {
         let front = front_joins(w, labels, counts, v);
-        if !sound_row(n, n, w, labels, counts, v) {
+        if !sound_row(n, w, n, labels, counts, v) {
             return SpreadAnswer::Refused(Refusal {
                 number: ROW,
                 place: v,

@@ -12,9 +12,11 @@ use Rattle.theory.specs.Rows.{Row}
 use Rattle.theory.specs.Plain.{rowBy}
 use Rattle.entry.specs.Entry.{decode}
 use Rattle.rows.specs.Rooms.{rowAt}
-use Rattle.rows.specs.Laid.{labelsOf, countsOf, Laid, rowsIn}
+use Rattle.rows.specs.Laid.{labelsOf, countsOf, rowsIn}
+use Rattle.rows.specs.Inner.{Laid}
 use Rattle.rows.proofs.LaidLaws.{count-at, laid-long}
-use Rattle.build.specs.Build.{Tested, Outcome, outcome, afterWalks, afterTests, buildOf, builtEntries}
+use Rattle.build.specs.Inner.{Tested}
+use Rattle.build.specs.Build.{BuildOutcome, buildOutcome, afterWalks, afterTests, buildOf, builtTold}
 use Rattle.build.specs.declared.Built.the-variants.{Entries}
 use Rattle.build.proofs.BuildOut.{not-made}
 use Rattle.build.proofs.BuildTests as build-tests
@@ -33,38 +35,38 @@ pub record Made (n w k : ℕ) (S L O : List ℕ) (entries : ℕ) (labels counts 
 
 -- ---- the outcome taken apart
 
-tests-fine : (lent : Outcome) (v : Verdict) (made : Outcome) (e : ℕ) (a b d f : List ℕ)
-    → outcome (Entries e) a b d f ≡ afterTests lent v made → (v ≡ Fine) × (outcome (Entries e) a b d f ≡ made)
+tests-fine : (lent : BuildOutcome) (v : Verdict) (made : BuildOutcome) (e : ℕ) (a b d f : List ℕ)
+    → buildOutcome (Entries e) a b d f ≡ afterTests lent v made → (v ≡ Fine) × (buildOutcome (Entries e) a b d f ≡ made)
 unfolding afterTests
 tests-fine lent Fine made e a b d f q = (refl, q)
-tests-fine lent (Refused r) made e a b d f q = not-made (ap (λ (o : Outcome). o .answer) q)
+tests-fine lent (Refused r) made e a b d f q = not-made (ap (λ (o : BuildOutcome). o .answer) q)
 
 walks-fine : (n w : ℕ) (R : ℕ → Row) (v : Verdict) (e : ℕ) (a b d f : List ℕ)
-    → outcome (Entries e) a b d f ≡ afterWalks n w R v
+    → buildOutcome (Entries e) a b d f ≡ afterWalks n w R v
     → (v ≡ Fine)
-    × (outcome (Entries e) a b d f
-    ≡ outcome (Entries (sum (countsOf n R))) (labelsOf n w R) (countsOf n R) (replicate n 0) (replicate n 0))
+    × (buildOutcome (Entries e) a b d f
+    ≡ buildOutcome (Entries (sum (countsOf n R))) (labelsOf n w R) (countsOf n R) (replicate n 0) (replicate n 0))
 unfolding afterWalks
 walks-fine n w R Fine e a b d f q = (refl, q)
-walks-fine n w R (Refused r) e a b d f q = not-made (ap (λ (o : Outcome). o .answer) q)
+walks-fine n w R (Refused r) e a b d f q = not-made (ap (λ (o : BuildOutcome). o .answer) q)
 
 -- ---- an unrefused build
 
 pub built-tests : (n w k : ℕ) (S L O labels counts met queue : List ℕ) (entries : ℕ) (labels' counts' met' queue' : List ℕ)
-    → outcome (Entries entries) labels' counts' met' queue' ≡ buildOf n w k S L O labels counts met queue
+    → buildOutcome (Entries entries) labels' counts' met' queue' ≡ buildOf n w k S L O labels counts met queue
     → Made n w k S L O entries labels' counts' met' queue'
-unfolding buildOf builtEntries
+unfolding buildOf builtTold
 built-tests n w k S L O labels counts met queue entries labels' counts' met' queue' e =
     let a = tests-fine _ _ _ entries labels' counts' met' queue' e in
     let b = walks-fine n w (rowBy n S L O k) _ entries labels' counts' met' queue' (a .1) in
-    let count-room : counts' ≡ countsOf n (rowBy n S L O k) = ap (λ (o : Outcome). o .counts) (b .1) in
+    let count-room : counts' ≡ countsOf n (rowBy n S L O k) = ap (λ (o : BuildOutcome). o .counts) (b .1) in
     record {
       given = build-tests.tests-fine n w k S L O labels counts met queue (a .0) .given;
       narrow = narrow-rows n w S L O k (b .0);
-      laid = record { rows = ap (λ (o : Outcome). o .labels) (b .1); numbers = count-room };
-      total = ap (λ (o : Outcome). o .entries) (b .1) ∙ sym (ap sum count-room);
-      met-room = ap (λ (o : Outcome). o .met) (b .1);
-      queue-room = ap (λ (o : Outcome). o .queue) (b .1);
+      laid = record { rows = ap (λ (o : BuildOutcome). o .labels) (b .1); numbers = count-room };
+      total = ap (λ (o : BuildOutcome). getD (o .told .values) 0 0) (b .1) ∙ sym (ap sum count-room);
+      met-room = ap (λ (o : BuildOutcome). o .met) (b .1);
+      queue-room = ap (λ (o : BuildOutcome). o .queue) (b .1);
     }
 
 -- ---- its rows

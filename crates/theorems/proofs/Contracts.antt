@@ -10,20 +10,20 @@ use denote.Triple.Clauses.{AtExit}
 use lib.ListN.{length, take, drop}
 use Rattle.theory.specs.Links.{hubOf}
 use Rattle.theory.specs.Chains.{Least, Through}
-use Rattle.rows.specs.Pair.{pairOf, told, saidOf}
+use Rattle.rows.specs.Pair.{pairOf, pairTold, saidOf}
 use Rattle.rows.specs.declared.pair.Answer.{Answer}
 use Rattle.rows.proofs.pair.pair.Kinds as pair-kinds
 use Rattle.rows.proofs.pair.pair.Reads as pair-reads
-use Rattle.build.specs.Build.{outcome, buildOf}
+use Rattle.build.specs.Build.{buildOutcome, buildOf}
 use Rattle.build.specs.declared.Built.{Built}
 use Rattle.build.specs.declared.Built.the-variants.{Entries}
 use Rattle.build.proofs.build.Kinds as build-kinds
 use Rattle.build.proofs.build.Reads as build-reads
 use Rattle.fields.specs.Bits.{Bytes}
 use Rattle.fields.specs.Layout.{fileSize}
-use Rattle.file.specs.Index.{stored, Same}
-use Rattle.file.specs.Reader.{outcome as read, readOf}
-use Rattle.file.specs.Writer.{wrote, writeOf}
+use Rattle.file.specs.Index.{stored, SameIndex}
+use Rattle.file.specs.Reader.{readOutcome as read, readOf}
+use Rattle.file.specs.Writer.{writeOutcome, writeOf}
 use Rattle.file.specs.declared.Opened.{Opened}
 use Rattle.file.specs.declared.Written.{Written}
 use Rattle.file.proofs.write.Kinds as write-kinds
@@ -60,9 +60,9 @@ pub record BuildCall (n w k : ℕ) (S L O labels₀ counts₀ met₀ queue₀ : 
 -- its contract, in those numbers and contents
 build-out : {n w k : ℕ} {S L O labels₀ counts₀ met₀ queue₀ : List ℕ} {r : Built} {labels counts met queue : List ℕ}
     → BuildCall n w k S L O labels₀ counts₀ met₀ queue₀ r labels counts met queue
-    → outcome r labels counts met queue ≡ buildOf n w k S L O labels₀ counts₀ met₀ queue₀
+    → buildOutcome r labels counts met queue ≡ buildOf n w k S L O labels₀ counts₀ met₀ queue₀
 build-out {r} c =
-    (λ i. outcome r (sym (c .labels-left) i) (sym (c .counts-left) i) (sym (c .met-left) i) (sym (c .queue-left) i))
+    (λ i. buildOutcome r (sym (c .labels-left) i) (sym (c .counts-left) i) (sym (c .met-left) i) (sym (c .queue-left) i))
     ∙ c .post
     ∙ (λ i.
     buildOf (c .frames i) (c .width i) (c .stop i) (c .starts i) (c .places i) (c .order i) (c .labels-lent i)
@@ -85,12 +85,12 @@ pub record WriteCall (n w k : ℕ) (O labels counts out : List ℕ) (start : ℕ
   pub out-left : now (s .1 .1 .1 .1 .1 .1 .0) ≡ room
 
 write-out : {n w k : ℕ} {O labels counts out : List ℕ} {start : ℕ} {r : Written} {room : List ℕ}
-    → WriteCall n w k O labels counts out start r room → wrote r room ≡ writeOf n k w O labels counts out start
+    → WriteCall n w k O labels counts out start r room → writeOutcome r room ≡ writeOf n w k O labels counts out start
 write-out {r} c =
-    (λ i. wrote r (sym (c .out-left) i))
+    (λ i. writeOutcome r (sym (c .out-left) i))
     ∙ c .post
     ∙ (λ i.
-    writeOf (c .frames i) (c .stop i) (c .width i) (c .order i) (c .labels-lent i) (c .counts-lent i) (c .out-lent i) (c .from i))
+    writeOf (c .frames i) (c .width i) (c .stop i) (c .order i) (c .labels-lent i) (c .counts-lent i) (c .out-lent i) (c .from i))
 
 -- a call of the reader
 pub record ReadCall (bytes : List ℕ) (w : ℕ) (order₁ labels₁ counts₁ : List ℕ) (r : Opened) (order₂ labels₂ counts₂ : List ℕ) : Type 1 where
@@ -154,9 +154,9 @@ calls-end-to-end built enough wrote p q r back =
 -- and whichever of these rooms is then asked, what the pair question hands back is demand 3's answer, with number 0
 pub calls-asked : {n w k : ℕ} {S L O labels counts : List ℕ} {s t : ℕ} {r : Answer} → Demands n w k S L O labels counts
     → PairCall n w labels counts s t r → s < n → t < n
-    → (told r .number ≡ 0) × Least (Through (Joins S L) (hubOf O) k s t) (saidOf r)
+    → (pairTold r .number ≡ 0) × Least (Through (Joins S L) (hubOf O) k s t) (saidOf r)
 calls-asked {k} {S} {L} {O} {s} {t} d c p q = (
-  ap (λ (x : Answer). told x .number) (pair-out c) ∙ d .taken s t p q,
+  ap (λ (x : Answer). pairTold x .number) (pair-out c) ∙ d .taken s t p q,
   subst (Least (Through (Joins S L) (hubOf O) k s t)) (sym (ap saidOf (pair-out c))) (d .fewest s t p q),
 )
 
@@ -166,7 +166,7 @@ pub calls-write-read : {n w k : ℕ} {O labels counts out : List ℕ} {start byt
     → {order₁ labels₁ counts₁ : List ℕ} → length order₁ ≡ n → length labels₁ ≡ n * w → length counts₁ ≡ n
     → {opened : Opened} {order₂ labels₂ counts₂ : List ℕ}
     → ReadCall (take bytes (drop start room)) w order₁ labels₁ counts₁ opened order₂ labels₂ counts₂
-    → (opened ≡ Opened.Index n k) × Same (stored n k w O labels counts) (stored n k w order₂ labels₂ counts₂)
+    → (opened ≡ Opened.Index n k) × SameIndex (stored n w k O labels counts) (stored n w k order₂ labels₂ counts₂)
 calls-write-read c p q r back =
     write-then-read _ _ _ _ _ _ _ _ _ _ (write-out c) _ refl _ _ _ p q r _ _ _ _ (read-out back)
 

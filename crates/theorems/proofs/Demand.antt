@@ -2,7 +2,7 @@
 use Prim.Native.Nat.{ℕ}
 use mathlib.Core.Path.{_≡_}
 use mathlib.Core.List.{List}
-use Rattle.build.specs.Build.{outcome, buildOf}
+use Rattle.build.specs.Build.{buildOutcome, buildOf}
 use Rattle.build.specs.declared.Built.the-variants.{Entries}
 use Rattle.theorems.specs.Demands.{Demands, labelsWithout, countsWithout, hubAt}
 use Rattle.theorems.proofs.Answers.{answer-through, answer-never-below, answer-near-first, answer-near-second, answer-true}
@@ -33,7 +33,7 @@ held-demands {n} {w} {k} {S} {L} {O} {labels} {counts} h =
 
 -- demands 2 and 3 of any rooms that the build's contract allows with an unrefused build
 pub built-demands : (n w k : ℕ) (S L O labels counts met queue : List ℕ) (entries : ℕ) (labels' counts' met' queue' : List ℕ)
-    → outcome (Entries entries) labels' counts' met' queue' ≡ buildOf n w k S L O labels counts met queue
+    → buildOutcome (Entries entries) labels' counts' met' queue' ≡ buildOf n w k S L O labels counts met queue
     → Demands n w k S L O labels' counts'
 built-demands n w k S L O labels counts met queue entries labels' counts' met' queue' e =
     held-demands (built-held (built-tests n w k S L O labels counts met queue entries labels' counts' met' queue' e))

@@ -10,15 +10,16 @@ use Rattle.basics.proofs.Laws.{lt-or-ge}
 use Rattle.links.proofs.Order.{order-passes}
 use Rattle.entry.specs.Entry.{decode}
 use Rattle.rows.specs.Pair.{pairOf}
-use Rattle.rows.specs.Rooms.{Rooms}
+use Rattle.rows.specs.Inner.{Rooms}
 use Rattle.rows.proofs.Laws.{entry-at}
 use Rattle.rows.proofs.PairDepends.{SameRow, pair-depends}
-use Rattle.build.specs.Build.{outcome, buildOf}
+use Rattle.build.specs.Build.{buildOutcome, buildOf}
 use Rattle.build.specs.declared.Built.the-variants.{Entries}
 use Rattle.fields.specs.Layout.{fileSize}
-use Rattle.file.specs.Index.{stored, Same}
-use Rattle.file.specs.Reader.{outcome as read, readOf}
-use Rattle.file.specs.Writer.{Fit, wrote, writeOf}
+use Rattle.file.specs.Index.{stored, SameIndex}
+use Rattle.file.specs.Reader.{readOutcome as read, readOf}
+use Rattle.file.specs.Inner.{Fit}
+use Rattle.file.specs.Writer.{writeOutcome, writeOf}
 use Rattle.file.specs.declared.Opened.{Opened}
 use Rattle.file.specs.declared.Written.{Written}
 use Rattle.file.proofs.ReadWrite.{read-takes}
@@ -30,13 +31,13 @@ use Rattle.theorems.proofs.Trips.{write-taken, write-then-read}
 
 -- a built index passes the writer's tests
 pub built-fit : {n w k : ℕ} {S L O : List ℕ} {entries : ℕ} {labels counts met queue : List ℕ}
-    → Made n w k S L O entries labels counts met queue → Fit n k w O labels counts
+    → Made n w k S L O entries labels counts met queue → Fit n w k O labels counts
 built-fit m =
     let h = built-held m in
     record { rooms = h .rooms; stop = m .given .stop; long = m .given .order .long; once = order-passes _ _ (m .given .order); sound = held-rows h }
 
 module _ {n w k : ℕ} {S L O labels counts : List ℕ} (h : Held n w k S L O labels counts) {order₂ labels₂ counts₂ : List ℕ}
-    (rooms₂ : Rooms n w labels₂ counts₂) (same : Same (stored n k w O labels counts) (stored n k w order₂ labels₂ counts₂)) where
+    (rooms₂ : Rooms n w labels₂ counts₂) (same : SameIndex (stored n w k O labels counts) (stored n w k order₂ labels₂ counts₂)) where
   -- the same index in other rooms holds the same rows
   pub same-held : Held n w k S L O labels₂ counts₂
   same-held =
@@ -73,9 +74,9 @@ module _ {n w k : ℕ} {S L O labels counts : List ℕ} (h : Held n w k S L O la
 -- links and order handed in, a build to k that is not refused, the index written from any start into any room long enough,
 -- and read back with the same W into any rooms of the right lengths
 pub end-to-end : (n w k : ℕ) (S L O labels₀ counts₀ met₀ queue₀ : List ℕ) (entries : ℕ) (labels counts met queue : List ℕ)
-    → outcome (Entries entries) labels counts met queue ≡ buildOf n w k S L O labels₀ counts₀ met₀ queue₀
+    → buildOutcome (Entries entries) labels counts met queue ≡ buildOf n w k S L O labels₀ counts₀ met₀ queue₀
     → (out : List ℕ) (start : ℕ) → start + fileSize n entries ≤ length out → (written : Written) (room : List ℕ)
-    → wrote written room ≡ writeOf n k w O labels counts out start
+    → writeOutcome written room ≡ writeOf n w k O labels counts out start
     → (order₁ labels₁ counts₁ : List ℕ) → length order₁ ≡ n → length labels₁ ≡ n * w → length counts₁ ≡ n
     → (opened : Opened) (order₂ labels₂ counts₂ : List ℕ)
     → read opened order₂ labels₂ counts₂ ≡ readOf (take (fileSize n entries) (drop start room)) w order₁ labels₁ counts₁
@@ -87,11 +88,11 @@ end-to-end n w k S L O labels₀ counts₀ met₀ queue₀ entries labels counts
     let h : Held n w k S L O labels counts = built-held m in
     let total : fileSize n (sum counts) ≡ fileSize n entries = ap (fileSize n) (sym (m .total)) in
     let size : written ≡ Written.Bytes (fileSize n entries) =
-    write-taken n k w O labels counts out start written room filled (built-fit m) (omega arith) ∙ ap Written.Bytes total in
+    write-taken n w k O labels counts out start written room filled (built-fit m) (omega arith) ∙ ap Written.Bytes total in
     let (index, same) =
-    write-then-read n k w O labels counts out start written room filled (fileSize n entries) size order₁ labels₁ counts₁ p q r
+    write-then-read n w k O labels counts out start written room filled (fileSize n entries) size order₁ labels₁ counts₁ p q r
     opened order₂ labels₂ counts₂ back in
-    let fit : Fit n k w order₂ labels₂ counts₂ =
+    let fit : Fit n w k order₂ labels₂ counts₂ =
     read-takes (take (fileSize n entries) (drop start room)) w order₁ labels₁ counts₁ n k order₂ labels₂ counts₂
     (ap (λ (a : Opened). read a order₂ labels₂ counts₂) (sym index) ∙ back) in
     record {

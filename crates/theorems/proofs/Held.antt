@@ -16,8 +16,9 @@ use Rattle.theory.proofs.Rule.{rankAt, joinsAt}
 use Rattle.theory.proofs.Plain.{plain-rising, plain-places, plain-walks}
 use Rattle.entry.specs.Entry.{rankOf, joinsOf, decode}
 use Rattle.rows.specs.Meetings.{meetingOf}
-use Rattle.rows.specs.Pair.{pairTests, answered, pairOf, told}
-use Rattle.rows.specs.Rooms.{Rooms, rowAt, soundRow, rowsTest}
+use Rattle.rows.specs.Pair.{pairTests, answered, pairOf, pairTold}
+use Rattle.rows.specs.Inner.{Rooms}
+use Rattle.rows.specs.Rooms.{rowAt, soundRow, rowsTest}
 use Rattle.rows.specs.declared.merge.Best.{Best}
 use Rattle.entry.proofs.Laws.{length-decode, decoded}
 use Rattle.rows.proofs.Laws.{Sound, sound-row, sound-higher}
@@ -36,24 +37,24 @@ pub record Held (n w k : ℕ) (S L O labels counts : List ℕ) : Type 0 where
   pub rows : (v : ℕ) → v < n → decode (rowAt w labels counts v) ≡ rowBy n S L O k v
 
 -- whatever it meets, a question whose tests are fine has number 0
-fine-told : (best : Best) → told (answered Fine best) .number ≡ 0
-unfolding told answered
+fine-told : (best : Best) → pairTold (answered Fine best) .number ≡ 0
+unfolding pairTold answered
 fine-told Best.Nowhere = refl
 fine-told (Best.Meet m) = refl
 
 pub told-fine : (n w : ℕ) (labels counts : List ℕ) (s t : ℕ) → pairTests n w labels counts s t ≡ Fine
-    → told (pairOf n w labels counts s t) .number ≡ 0
+    → pairTold (pairOf n w labels counts s t) .number ≡ 0
 unfolding pairOf
 told-fine n w labels counts s t e =
     let best : Best = meetingOf (rowAt w labels counts s) (rowAt w labels counts t) in
-    ap (λ (v : Verdict). told (answered v best) .number) e ∙ fine-told best
+    ap (λ (v : Verdict). pairTold (answered v best) .number) e ∙ fine-told best
 
 -- rooms whose rows are sound for a stop
 module _ {n w k : ℕ} {labels counts : List ℕ} (rooms : Rooms n w labels counts) (stop : k ≤ n)
     (narrow : (v : ℕ) → v < n → getD counts v 0 ≤ w)
-    (sound : (v : ℕ) → v < n → Sound k n (rowAt w labels counts v) (getD counts v 0)) where
-  row-sound : (v : ℕ) → v < n → soundRow n n w labels counts v ≡ true
-  row-sound v p = sound-row n n w labels counts v (narrow v p) (sound-higher stop (sound v p))
+    (sound : (v : ℕ) → v < n → Sound n k (rowAt w labels counts v) (getD counts v 0)) where
+  row-sound : (v : ℕ) → v < n → soundRow n w n labels counts v ≡ true
+  row-sound v p = sound-row n w n labels counts v (narrow v p) (sound-higher stop (sound v p))
 
   -- no pair of frames is refused
   pub sound-fine : (s t : ℕ) → s < n → t < n → pairTests n w labels counts s t ≡ Fine
@@ -80,7 +81,7 @@ module _ {n w k : ℕ} {S L O labels counts : List ℕ} (h : Held n w k S L O la
   held-entry v i p l = decoded (rowAt w labels counts v) (h .rows v p) i (omega (arith, held-length v p))
 
   -- ranks strictly rise below k, joins are below n
-  pub held-sound : (v : ℕ) → v < n → Sound k n (rowAt w labels counts v) (getD counts v 0)
+  pub held-sound : (v : ℕ) → v < n → Sound n k (rowAt w labels counts v) (getD counts v 0)
   held-sound v p =
       let long : length (rowBy n S L O k v) ≡ getD counts v 0 = rule-length v p in
       let stop : k ≤ n = h .stop in
@@ -99,8 +100,8 @@ module _ {n w k : ℕ} {S L O labels counts : List ℕ} (h : Held n w k S L O la
       }
 
   -- every row is sound for the bound k, as the writer asks
-  pub held-rows : rowsTest k n w labels counts ≡ Fine
-  held-rows = sound-all k n w labels counts (λ v p. sound-row k n w labels counts v (h .narrow v p) (held-sound v p))
+  pub held-rows : rowsTest n w k labels counts ≡ Fine
+  held-rows = sound-all n w k labels counts (λ v p. sound-row n w k labels counts v (h .narrow v p) (held-sound v p))
 
   -- the rows are the walks'
   pub held-walks : (v : ℕ) → v < n → decode (rowAt w labels counts v) ≡ walks (far 1 n) n (joined S L) (hubOf O) k v

@@ -19,7 +19,8 @@ use Rattle.theory.proofs.Spare.{instead-at, instead-not}
 use Rattle.theory.proofs.Plain.{plain-spare}
 use Rattle.entry.specs.Entry.{rankOf, joinsOf, decode}
 use Rattle.rows.specs.Pair.{pairTests}
-use Rattle.rows.specs.Rooms.{Rooms, rowAt}
+use Rattle.rows.specs.Inner.{Rooms}
+use Rattle.rows.specs.Rooms.{rowAt}
 use Rattle.entry.proofs.Laws.{decode-append}
 use Rattle.rows.proofs.Laws.{Sound, row-inside, row-place, entry-at}
 use Rattle.rows.proofs.RoomLaws.{length-row}
@@ -135,9 +136,9 @@ module _ {n w k : ℕ} {S L O labels counts : List ℕ} (h : Held n w k S L O la
       ∙ sym (entry-at w labels counts v (j + 1) f)
 
   -- each entry of the new row is one of the old row's, and a later one is later there
-  sound' : Sound k n (rowAt w labels' counts' v) (getD counts' v 0)
+  sound' : Sound n k (rowAt w labels' counts' v) (getD counts' v 0)
   sound' =
-      let s : Sound k n (rowAt w labels counts v) (getD counts v 0) = held-sound h v p in
+      let s : Sound n k (rowAt w labels counts v) (getD counts v 0) = held-sound h v p in
       let less : getD counts' v 0 ≡ getD counts v 0 - 1 = one-less in
       record {
         rank = λ j g.
@@ -218,13 +219,13 @@ module _ {n w k : ℕ} {S L O labels counts : List ℕ} (h : Held n w k S L O la
       (λ e.
       ap decode (other-row u q e) ∙ h .rows u q ∙ sym (instead-not (rowBy n S L O k) v (xs ++ ys) u e))
 
-  sounds' : (u : ℕ) → u < n → Sound k n (rowAt w labels' counts' u) (getD counts' u 0)
+  sounds' : (u : ℕ) → u < n → Sound n k (rowAt w labels' counts' u) (getD counts' u 0)
   sounds' u q =
       by-cases (ℕ-discrete u v)
-      (λ (e : u ≡ v). subst (λ (z : ℕ). Sound k n (rowAt w labels' counts' z) (getD counts' z 0)) (sym e) sound')
+      (λ (e : u ≡ v). subst (λ (z : ℕ). Sound n k (rowAt w labels' counts' z) (getD counts' z 0)) (sym e) sound')
       (λ e.
-      subst (λ (r : List ℕ). Sound k n r (getD counts' u 0)) (sym (other-row u q e))
-      (subst (Sound k n (rowAt w labels counts u)) (sym (no-less u e)) (held-sound h u q)))
+      subst (λ (r : List ℕ). Sound n k r (getD counts' u 0)) (sym (other-row u q e))
+      (subst (Sound n k (rowAt w labels counts u)) (sym (no-less u e)) (held-sound h u q)))
 
   pub without-fine : (s t : ℕ) → s < n → t < n → pairTests n w labels' counts' s t ≡ Fine
   without-fine = sound-fine rooms' (h .stop) narrow' sounds'

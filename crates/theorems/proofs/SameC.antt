@@ -5,6 +5,7 @@ use mathlib.Core.Path.{_≡_}
 use mathlib.Core.List.{List, []}
 use denote.Ref.{now}
 use lib.ListN.{getD}
+use Rattle.refusal.specs.Told.{Told}
 use Rattle.capi.specs.Outs.{Outs}
 use Rattle.capi.proofs.link_calls.seam_check_links.Kinds as seam-check-links-kinds
 use Rattle.capi.proofs.link_calls.seam_check_links.Reads as seam-check-links-reads
@@ -30,15 +31,18 @@ use Rattle.capi.proofs.file_calls.seam_read.Kinds as seam-read-kinds
 use Rattle.capi.proofs.file_calls.seam_read.Reads as seam-read-reads
 use Rattle.theorems.proofs.Same.{Same, both}
 
--- what a call gives back
-abbrev number : Outs → ℕ
-number o = o .number
+-- what is told of a call, and the rooms beside it
+abbrev number : Told → ℕ
+number t = t .number
 
-abbrev place : Outs → ℕ
-place o = o .place
+abbrev place : Told → ℕ
+place t = t .place
 
-abbrev value : ℕ → Outs → ℕ
-value i o = getD (o .values) i 0
+abbrev value : ℕ → Told → ℕ
+value i t = getD (t .values) i 0
+
+abbrev saying : {A : Type 0} → (Told → A) → Outs → A
+saying f o = f (o .told)
 
 abbrev room : ℕ → Outs → List ℕ
 room i o = getD (o .rooms) i []
@@ -55,7 +59,7 @@ pub seam-order-by-degree-same : Same 4 seam-order-by-degree-kinds.ps seam-order-
     (λ κs r₁ r₂ s₁ s₂. (r₁ ≡ r₂)
     × (now (s₁ .1 .1 .1 .1 .0) ≡ now (s₂ .1 .1 .1 .1 .0))
     × (now (s₁ .1 .1 .1 .0) ≡ now (s₂ .1 .1 .1 .0)))
-seam-order-by-degree-same κs a r₁ r₂ s₁ s₂ p q = (both number p q, both place p q, both (room 0) p q)
+seam-order-by-degree-same κs a r₁ r₂ s₁ s₂ p q = (both (saying number) p q, both (saying place) p q, both (room 0) p q)
 
 pub seam-build-same : Same 9 seam-build-kinds.ps seam-build-kinds.r seam-build-reads.Post
     (λ κs r₁ r₂ s₁ s₂. (r₁ ≡ r₂)
@@ -65,7 +69,7 @@ pub seam-build-same : Same 9 seam-build-kinds.ps seam-build-kinds.r seam-build-r
     × (now (s₁ .1 .1 .1 .1 .1 .1 .1 .0) ≡ now (s₂ .1 .1 .1 .1 .1 .1 .1 .0))
     × (now (s₁ .1 .1 .1 .1 .1 .1 .1 .1 .0) ≡ now (s₂ .1 .1 .1 .1 .1 .1 .1 .1 .0))
     × (now (s₁ .1 .1 .1 .1 .1 .1 .1 .1 .1 .0) ≡ now (s₂ .1 .1 .1 .1 .1 .1 .1 .1 .1 .0)))
-seam-build-same κs a r₁ r₂ s₁ s₂ p q = (both number p q, both place p q, both (value 0) p q, both (room 0) p q, both (room 1) p q, both (room 2) p q, both (room 3) p q)
+seam-build-same κs a r₁ r₂ s₁ s₂ p q = (both (saying number) p q, both (saying place) p q, both (saying (value 0)) p q, both (room 0) p q, both (room 1) p q, both (room 2) p q, both (room 3) p q)
 
 pub seam-pair-same : Same 5 seam-pair-kinds.ps seam-pair-kinds.r seam-pair-reads.Post
     (λ κs r₁ r₂ s₁ s₂. (r₁ ≡ r₂)
@@ -96,7 +100,7 @@ pub seam-write-same : Same 6 seam-write-kinds.ps seam-write-kinds.r seam-write-r
     × (now (s₁ .1 .1 .1 .1 .1 .1 .1 .1 .1 .0) ≡ now (s₂ .1 .1 .1 .1 .1 .1 .1 .1 .1 .0))
     × (now (s₁ .1 .1 .1 .1 .1 .1 .1 .1 .0) ≡ now (s₂ .1 .1 .1 .1 .1 .1 .1 .1 .0))
     × (now (s₁ .1 .1 .1 .1 .1 .1 .0) ≡ now (s₂ .1 .1 .1 .1 .1 .1 .0)))
-seam-write-same κs a r₁ r₂ s₁ s₂ p q = (both number p q, both place p q, both (value 0) p q, both (room 0) p q)
+seam-write-same κs a r₁ r₂ s₁ s₂ p q = (both (saying number) p q, both (saying place) p q, both (saying (value 0)) p q, both (room 0) p q)
 
 pub seam-header-same : Same 4 seam-header-kinds.ps seam-header-kinds.r seam-header-reads.Post
     (λ κs r₁ r₂ s₁ s₂. (r₁ ≡ r₂)
@@ -113,4 +117,4 @@ pub seam-read-same : Same 7 seam-read-kinds.ps seam-read-kinds.r seam-read-reads
     × (now (s₁ .1 .1 .0) ≡ now (s₂ .1 .1 .0))
     × (now (s₁ .1 .1 .1 .0) ≡ now (s₂ .1 .1 .1 .0))
     × (now (s₁ .1 .1 .1 .1 .0) ≡ now (s₂ .1 .1 .1 .1 .0)))
-seam-read-same κs a r₁ r₂ s₁ s₂ p q = (both number p q, both place p q, both (value 0) p q, both (value 1) p q, both (room 0) p q, both (room 1) p q, both (room 2) p q)
+seam-read-same κs a r₁ r₂ s₁ s₂ p q = (both (saying number) p q, both (saying place) p q, both (saying (value 0)) p q, both (saying (value 1)) p q, both (room 0) p q, both (room 1) p q, both (room 2) p q)

@@ -2,7 +2,7 @@
 -- room, the label room and the count room are the reader's third to fifth.
 use mathlib.Core.Path.{_≡_, sym, _∙_}
 use denote.Ref.{now}
-use Rattle.file.specs.Reader.{Outcome}
+use Rattle.file.specs.Reader.{ReadOutcome}
 use Rattle.file.proofs.Writing.{write-same as wrote-same}
 use Rattle.file.proofs.write.Kinds as write-kinds
 use Rattle.file.proofs.write.Reads as write-reads
@@ -26,8 +26,8 @@ pub read-same : Same 4 read-kinds.ps read-kinds.r read-reads.Post
     × (now (s₁ .1 .1 .1 .0) ≡ now (s₂ .1 .1 .1 .0))
     × (now (s₁ .1 .1 .1 .1 .0) ≡ now (s₂ .1 .1 .1 .1 .0)))
 read-same κs a r₁ r₂ s₁ s₂ p q = (
-  both (λ (o : Outcome). o .answer) (p .0) (q .0),
-  both (λ (o : Outcome). o .order) (p .0) (q .0),
-  both (λ (o : Outcome). o .labels) (p .0) (q .0),
-  both (λ (o : Outcome). o .counts) (p .0) (q .0),
+  both (λ (o : ReadOutcome). o .answer) (p .0) (q .0),
+  both (λ (o : ReadOutcome). o .order) (p .0) (q .0),
+  both (λ (o : ReadOutcome). o .labels) (p .0) (q .0),
+  both (λ (o : ReadOutcome). o .counts) (p .0) (q .0),
 )

@@ -33,7 +33,7 @@ use Rattle.build.specs.Build.{
 use Rattle.fields.specs.Bits.{bitLen, num, bytesOf, byteLen, padLen, packed}
 use Rattle.fields.specs.Layout.{fieldsFrom, headerFields, rowFields, fileFields, fileOf}
 use Rattle.file.specs.Index.{lengthsFit}
-use Rattle.file.specs.Writer.{indexSizes, writeTests, outFits, outTest, wrote, filledFrom, writeOf}
+use Rattle.file.specs.Writer.{indexSizes, writeTests, outFits, outTest, writtenTold, filledFrom, writeOf}
 use Rattle.theorems.specs.Starred.{asked, chainTo, ring, threeTo, one, Starred}
 
 -- each of the four frames
@@ -49,11 +49,11 @@ unfolding chainTo ring threeTo one first some count least table sum test _then_ 
     inList far weight via dist hubs keep ruleRow joinsTo rowBy
     framesFit widthFits placesFit startsRight degree holds faultyLink faultyList sizesTest startsTest listsTest
     stands faultyRank orderTest before ahead orderByDegree degreeTests degreeOf
-    rankOf joinsOf entryOf decode encode sizesFit roomsFit roomTests part rowAt faultyEntry soundRow frameTest frameTests rowTest rowsTest
-    meetingsAt meetings goesBefore lesserOf leastFrom meetingOf pairTests answered pairOf
+    rankOf joinsOf entryOf decode encode sizesFit roomsFit roomTests part rowAt faultyEntry frameTests soundRow rowTest frameTest meetings
+    goesBefore rowsTest meetingsAt lesserOf leastFrom meetingOf pairTests answered pairOf
     labelsOf countsOf buildSizes buildRooms buildTests fullAt farFrame farAt stopAt walksTest afterWalks afterTests buildOf
     bitLen num bytesOf byteLen padLen packed fieldsFrom headerFields rowFields fileFields fileOf
-    lengthsFit indexSizes writeTests outFits outTest wrote filledFrom writeOf
+    writeTests lengthsFit indexSizes writtenTold outFits outTest filledFrom writeOf
 starred =
     record {
       chain-order = refl;

@@ -17,7 +17,7 @@ use Rattle.theory.specs.Walk.{walks}
 use Rattle.theory.specs.Plain.{ones, joined}
 use Rattle.entry.specs.Entry.{rankOf, decode}
 use Rattle.rows.specs.Rooms.{rowAt}
-use Rattle.rows.specs.Pair.{pairOf, told, saidOf}
+use Rattle.rows.specs.Pair.{pairOf, pairTold, saidOf}
 
 -- the answer for (s,t): a number of joins, or none
 abbrev pub askedOf : ℕ → ℕ → List ℕ → List ℕ → ℕ → ℕ → Count
@@ -56,7 +56,7 @@ pub record Demands (n w k : ℕ) (S L O labels counts : List ℕ) : Type 0 where
   -- and so the row rule's at stop k, exactly
   pub ruled : (v : ℕ) → v < n → (r m : ℕ) → In r m (decode (rowAt w labels counts v)) ↔ RowRule S L O k v r m
   -- any two frames, equal ones included, may be asked: success is 0
-  pub taken : (s t : ℕ) → s < n → t < n → told (pairOf n w labels counts s t) .number ≡ 0
+  pub taken : (s t : ℕ) → s < n → t < n → pairTold (pairOf n w labels counts s t) .number ≡ 0
   -- demand 3: the answer is the fewest joins of a chain through one of those k hubs, none exactly if there is no such chain
   pub fewest : (s t : ℕ) → s < n → t < n → Least (Through (Joins S L) (hubOf O) k s t) (askedOf n w labels counts s t)
   -- it is never below the true count
@@ -74,7 +74,7 @@ pub record Demands (n w k : ℕ) (S L O labels counts : List ℕ) : Type 0 where
   -- no entry is spare: with any used entry taken out, the pair of its hub and its frame is still taken, and answered otherwise
   pub no-spare : (v i : ℕ) → v < n → i < getD counts v 0
       → (hubAt w O labels v i < n)
-      × (told (pairOf n w (labelsWithout w labels counts v i) (countsWithout counts v) (hubAt w O labels v i) v) .number ≡ 0)
+      × (pairTold (pairOf n w (labelsWithout w labels counts v i) (countsWithout counts v) (hubAt w O labels v i) v) .number ≡ 0)
       × (askedOf n w (labelsWithout w labels counts v i) (countsWithout counts v) (hubAt w O labels v i) v
       ≡ askedOf n w labels counts (hubAt w O labels v i) v
       → ⊥)

@@ -6,7 +6,7 @@ use lib.ListN.{replicate}
 use Rattle.basics.specs.Places.{sum}
 use Rattle.rows.specs.Pair.{pairOf}
 use Rattle.fields.specs.Layout.{fileSize}
-use Rattle.file.specs.Index.{stored, Same}
+use Rattle.file.specs.Index.{stored, SameIndex}
 use Rattle.file.specs.declared.Opened.{Opened}
 use Rattle.file.specs.declared.Written.{Written}
 use Rattle.theorems.specs.Demands.{Demands}
@@ -27,7 +27,7 @@ pub record EndToEnd (n w k : ℕ) (S L O : List ℕ) (entries : ℕ) (labels cou
   -- the reader isn't refused, and hands back n and k
   pub index : opened ≡ Opened.Index n k
   -- a file read back with the W it was written with gives the same index
-  pub same : Same (stored n k w O labels counts) (stored n k w order₂ labels₂ counts₂)
+  pub same : SameIndex (stored n w k O labels counts) (stored n w k order₂ labels₂ counts₂)
   -- every pair gets from the read-back rooms the very answer that the built ones give, a refusal of either frame included
   pub answers : (s t : ℕ) → pairOf n w labels₂ counts₂ s t ≡ pairOf n w labels counts s t
   -- the read-back rooms meet demands 2 and 3 over the links and the order handed in, every clause

@@ -15,9 +15,9 @@ use Rattle.rows.specs.Rooms.{rowAt}
 use Rattle.rows.specs.Pair.{pairOf}
 use Rattle.rows.specs.declared.pair.Answer.{Answer}
 use Rattle.rows.specs.declared.pair.Answer.the-variants as answers
-use Rattle.build.specs.Build.{Outcome, outcome, buildOf}
+use Rattle.build.specs.Build.{BuildOutcome, buildOutcome, buildOf}
 use Rattle.build.specs.declared.Built.the-variants as built
-use Rattle.file.specs.Writer.{wrote, writeOf}
+use Rattle.file.specs.Writer.{writeOutcome, writeOf}
 use Rattle.file.specs.declared.Written.{Written}
 
 -- a room of this length, lent with 7 everywhere
@@ -25,11 +25,11 @@ abbrev pub dirty : ℕ → List ℕ
 dirty places = replicate places 7
 
 -- a build over n frames of width w up to stop k, with these starts, neighbour places and order
-abbrev pub buildAt : ℕ → ℕ → ℕ → List ℕ → List ℕ → List ℕ → List ℕ → Outcome
+abbrev pub buildAt : ℕ → ℕ → ℕ → List ℕ → List ℕ → List ℕ → List ℕ → BuildOutcome
 buildAt n w k S L O labels = buildOf n w k S L O labels (dirty n) (dirty n) (dirty n)
 
 -- the answer for (s,t) from the rooms that a build leaves
-abbrev pub asked : ℕ → ℕ → Outcome → ℕ → ℕ → Answer
+abbrev pub asked : ℕ → ℕ → BuildOutcome → ℕ → ℕ → Answer
 asked n w o s t = pairOf n w (o .labels) (o .counts) s t
 
 -- Chain 0-1-2-3
@@ -43,19 +43,19 @@ abbrev pub chainO : List ℕ
 chainO = 1 ∷ 2 ∷ 0 ∷ 3 ∷ []
 
 -- its build with W = 3 and stop k
-unfoldable pub chainTo : ℕ → Outcome
+unfoldable pub chainTo : ℕ → BuildOutcome
 chainTo k = buildAt 4 3 k chainS chainL chainO (dirty 12)
 
 -- Ring 0-1-2-3-0, order 0,1,2,3, with W = 3
-unfoldable pub ring : Outcome
+unfoldable pub ring : BuildOutcome
 ring = buildAt 4 3 4 (0 ∷ 2 ∷ 4 ∷ 6 ∷ 8 ∷ []) (1 ∷ 3 ∷ 0 ∷ 2 ∷ 1 ∷ 3 ∷ 0 ∷ 2 ∷ []) (0 ∷ 1 ∷ 2 ∷ 3 ∷ []) (dirty 12)
 
 -- Three frames, only link 0-1, order 0,1,2, with W = 2 and stop k
-unfoldable pub threeTo : ℕ → Outcome
+unfoldable pub threeTo : ℕ → BuildOutcome
 threeTo k = buildAt 3 2 k (0 ∷ 1 ∷ 2 ∷ 2 ∷ []) (1 ∷ 0 ∷ []) (0 ∷ 1 ∷ 2 ∷ []) (dirty 6)
 
 -- One frame, with W = 1 and k = 1
-unfoldable pub one : Outcome
+unfoldable pub one : BuildOutcome
 one = buildAt 1 1 1 (0 ∷ 0 ∷ []) [] (0 ∷ []) (dirty 1)
 
 pub record Starred : Type 0 where
@@ -64,14 +64,14 @@ pub record Starred : Type 0 where
   -- Rows as listed, W = 3: `0 1:1 0:0`, `1 1:0`, `2 1:1 2:0`, `3 1:2 2:1 3:0`, where hub 1 has rank 0, hub 2 rank 1, hub 0
   -- rank 2 and hub 3 rank 3; 8 entries, both work rooms 0.
   pub chain-rows : chainTo 4
-      ≡ outcome (built.Entries 8)
+      ≡ buildOutcome (built.Entries 8)
       (1 ∷ 131072 ∷ 0 ∷ 0 ∷ 0 ∷ 0 ∷ 1 ∷ 65536 ∷ 0 ∷ 2 ∷ 65537 ∷ 196608 ∷ [])
       (2 ∷ 1 ∷ 2 ∷ 3 ∷ [])
       (0 ∷ 0 ∷ 0 ∷ 0 ∷ [])
       (0 ∷ 0 ∷ 0 ∷ 0 ∷ [])
   -- W = 2: ROOM at rank 3; labels, counts, work rooms all 0.
   pub chain-room : buildAt 4 2 4 chainS chainL chainO (dirty 8)
-      ≡ outcome (built.Refused (refusal ROOM 3))
+      ≡ buildOutcome (built.Refused (refusal ROOM 3))
       (0 ∷ 0 ∷ 0 ∷ 0 ∷ 0 ∷ 0 ∷ 0 ∷ 0 ∷ [])
       (0 ∷ 0 ∷ 0 ∷ 0 ∷ [])
       (0 ∷ 0 ∷ 0 ∷ 0 ∷ [])
@@ -98,4 +98,4 @@ pub record Starred : Type 0 where
   pub three-self : asked 3 2 (threeTo 2) 2 2 ≡ answers.None
   -- One frame, k = 1: file 10 00 00 08 00 00 08 00 00 00.
   pub one-file : writeOf 1 1 1 (0 ∷ []) (one .labels) (one .counts) (dirty 10) 0
-      ≡ wrote (Written.Bytes 10) (16 ∷ 0 ∷ 0 ∷ 8 ∷ 0 ∷ 0 ∷ 8 ∷ 0 ∷ 0 ∷ 0 ∷ [])
+      ≡ writeOutcome (Written.Bytes 10) (16 ∷ 0 ∷ 0 ∷ 8 ∷ 0 ∷ 0 ∷ 8 ∷ 0 ∷ 0 ∷ 0 ∷ [])

@@ -11,7 +11,7 @@ use lib.ListN.{length, getD, set, length-set}
 use lib.Seq.{getD-set-same, getD-set-other}
 use borrow.Author.Count.{below-more}
 use Rattle.basics.proofs.Laws.{by-cases, cases}
-use Rattle.walk.specs.Explore.{Queued, Bfs, metAt}
+use Rattle.walk.specs.Inner.{Queued, Bfs, metAt}
 use Rattle.walk.proofs.BfsStep.{Carried, done-stays, parent-stays, apart}
 
 module _ {n : ℕ} {S L : List ℕ} {drop : ℕ → ℕ → Bool} {hub : ℕ} {M Q : List ℕ} {head tail : ℕ}

@@ -16,8 +16,7 @@ use Rattle.theory.specs.Plain.{ones, joined}
 use Rattle.theory.specs.Walk.{Met, levels}
 use Rattle.theory.proofs.DistPlain.{joined-link, link-joined}
 use Rattle.theory.proofs.Levels.{oneEach, met-levels}
-use Rattle.walk.specs.Walk.{mark}
-use Rattle.walk.specs.Explore.{Bfs, Low, Kept, Dropped, metAt}
+use Rattle.walk.specs.Inner.{mark, Bfs, Low, Kept, Dropped, metAt}
 use Rattle.walk.proofs.RoomMarks.{mark-yes, mark-drop, mark-none}
 
 -- the level that a met room holds for v, and B where v is not met

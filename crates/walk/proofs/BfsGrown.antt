@@ -8,7 +8,7 @@ use native.Mathlib.Omega.{arith}
 use lib.ListN.{length, getD, set, length-set}
 use lib.Seq.{getD-set-same, getD-set-other}
 use Rattle.basics.proofs.Laws.{by-cases, cases, lt-or-ge, set-cases}
-use Rattle.walk.specs.Explore.{Queued, Grown}
+use Rattle.walk.specs.Inner.{Queued, Grown}
 use Rattle.walk.proofs.BfsQueue.{push, room}
 
 module _ (S L : List ℕ) (u mark : ℕ) {M Q : List ℕ} {tail : ℕ} where

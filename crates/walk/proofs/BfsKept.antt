@@ -11,7 +11,7 @@ use borrow.Author.Count.{below-more}
 use Rattle.basics.proofs.Laws.{cases, lt-or-ge}
 use Rattle.theory.specs.Links.{Link}
 use Rattle.theory.specs.Plain.{ones}
-use Rattle.walk.specs.Explore.{Grown, Bfs, Kept, metAt}
+use Rattle.walk.specs.Inner.{Grown, Bfs, Kept, metAt}
 use Rattle.walk.proofs.BfsStep.{Carried, done-stays, parent-stays}
 
 module _ {n : ℕ} {S L : List ℕ} {drop : ℕ → ℕ → Bool} {hub : ℕ} {M Q : List ℕ} {head tail : ℕ}

@@ -8,7 +8,7 @@ use lib.ListN.{length, getD, set, length-set}
 use lib.Seq.{getD-set-same, getD-set-other}
 use Rattle.basics.proofs.Laws.{by-cases, cases, set-cases}
 use Rattle.theory.proofs.Ranks.{fewer}
-use Rattle.walk.specs.Explore.{Queued}
+use Rattle.walk.specs.Inner.{Queued}
 
 module _ {M Q : List ℕ} {tail : ℕ} (line : Queued M Q tail) where
   -- no place of the queue holds a frame that is not met

@@ -7,7 +7,7 @@ use mathlib.Core.List.{List}
 use native.Mathlib.Omega.{arith}
 use lib.ListN.{length, getD, set, replicate, length-set, length-replicate}
 use lib.Seq.{getD-set-same}
-use Rattle.walk.specs.Explore.{Queued, Bfs}
+use Rattle.walk.specs.Inner.{Queued, Bfs}
 use Rattle.walk.proofs.BfsQueue.{push}
 use Rattle.walk.proofs.RoomClear.{zero-at}
 

@@ -8,7 +8,7 @@ use mathlib.Core.List.{List}
 use native.Mathlib.Omega.{arith}
 use lib.ListN.{getD}
 use Rattle.basics.proofs.Laws.{cases, once-same}
-use Rattle.walk.specs.Explore.{Bfs, StepIn, drops, Kept, Dropped, Parent, metAt}
+use Rattle.walk.specs.Inner.{Bfs, StepIn, drops, Kept, Dropped, Parent, metAt}
 
 -- ---- what is done stays done
 

@@ -10,11 +10,11 @@ use lib.Dec.{leb}
 use Rattle.theory.specs.Distance.{far}
 use Rattle.theory.proofs.Answer.{answer-cap}
 use Rattle.theory.proofs.Plain.{far-room}
-use Rattle.entry.specs.Entry.{RanksIn}
+use Rattle.entry.specs.Inner.{RanksIn}
 use Rattle.rows.specs.Rooms.{rowAt}
 use Rattle.rows.specs.Laid.{rowsIn}
-use Rattle.walk.specs.Walk.{soFar, levelOf, metRoom}
-use Rattle.walk.specs.Explore.{ExploreIn, RowSound, DropIn, SpreadIn, Bfs, drops, notedBy}
+use Rattle.walk.specs.Walk.{soFar, levelOf}
+use Rattle.walk.specs.Inner.{metRoom, ExploreIn, RisingRow, DropIn, ReachIn, Bfs, drops, notedBy}
 use Rattle.walk.proofs.BfsEnd.{bfs-room}
 use Rattle.walk.proofs.DropNotes.{note-long, note-forget, notes-at}
 use Rattle.walk.proofs.DropWithin.{Notes, within-answer}
@@ -28,12 +28,12 @@ capped n w labels counts hub u = answer-cap _ _ _ _
 module _ {n w : ℕ} {S L labels counts : List ℕ} {hub : ℕ} {met queue noted : List ℕ}
     (e : ExploreIn n w S L labels counts hub met queue noted) where
   noted-long : length noted ≡ 4096
-  noted-long = ap length (e .noted-far) ∙ length-replicate {A = ℕ} 4096 65536
+  noted-long = ap length (e .noted-lacking) ∙ length-replicate {A = ℕ} 4096 65536
 
-  row-in : (u : ℕ) → u < n → RowSound n w labels counts u
+  row-in : (u : ℕ) → u < n → RisingRow n w labels counts u
   row-in u h = record { labels-long = e .labels-long; rows = e .rows; frame = h }
 
-  pub hub-row : RowSound n w labels counts hub
+  pub hub-row : RisingRow n w labels counts hub
   hub-row = row-in hub (e .hub-in)
 
   -- the drop test of any frame, over any table as long
@@ -49,8 +49,8 @@ module _ {n w : ℕ} {S L labels counts : List ℕ} {hub : ℕ} {met queue noted
       long : length T ≡ length noted
       long = ap length filled ∙ note-long false row noted
 
-      pub spread-in : SpreadIn n w S L labels counts T hub met queue
-      spread-in =
+      pub reach-in : ReachIn n w S L labels counts T hub met queue
+      reach-in =
           record {
             given = record { frames = e .frames; block = e .block; test = drop-in T long };
             hub-in = e .hub-in;
@@ -64,16 +64,16 @@ module _ {n w : ℕ} {S L labels counts : List ℕ} {hub : ℕ} {met queue noted
       pub notes-back : {T' : List ℕ} → T' ≡ notedBy true row T → T' ≡ noted
       notes-back back =
           back
-          ∙ ap (notedBy true row) (filled ∙ ap (notedBy false row) (e .noted-far))
+          ∙ ap (notedBy true row) (filled ∙ ap (notedBy false row) (e .noted-lacking))
           ∙ note-forget row 4096
-          ∙ sym (e .noted-far)
+          ∙ sym (e .noted-lacking)
 
       -- the notes are the hub's row
       notes : Notes (far 1 n) n (rowsIn w labels counts hub) T
       unfolding far rowsIn
       notes r h =
           let there : getD noted r 0 ≡ 65536 =
-          ap (λ (l : List ℕ). getD l r 0) (e .noted-far) ∙ getD-replicate 4096 r 65536 0 (omega (arith, e .frames)) in
+          ap (λ (l : List ℕ). getD l r 0) (e .noted-lacking) ∙ getD-replicate 4096 r 65536 0 (omega (arith, e .frames)) in
           let low : far 1 n ≤ 65536 = omega (arith, e .frames) in
           notes-at (far 1 n) (rowAt w labels counts hub) noted r low (omega (arith, noted-long, e .frames)) there
           (λ i j p q. e .rows .rising hub i j (e .hub-in) p (omega (arith, row-long hub-row)))

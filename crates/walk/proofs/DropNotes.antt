@@ -15,7 +15,7 @@ use borrow.Author.Tests.{eq-eqb, ne-eqb, eqb-true, eqb-false}
 use Rattle.basics.proofs.Laws.{bcase, by-cases, cases, not-both, cond-true, cond-false, either-true, either-false, neither}
 use Rattle.theory.specs.Rows.{at}
 use Rattle.entry.specs.Entry.{rankOf, joinsOf, decode}
-use Rattle.walk.specs.Explore.{noteOf, notedBy}
+use Rattle.walk.specs.Inner.{noteOf, notedBy}
 
 -- one turn of the loop
 pub note-on : (forget : Bool) (row noted : List ℕ) (i : ℕ) → i < length row

@@ -4,19 +4,21 @@ use mathlib.Core.Path.{_≡_}
 use mathlib.Core.List.{List}
 use native.Mathlib.Omega.{arith}
 use lib.ListN.{length, getD}
-use Rattle.entry.specs.Entry.{rankOf, RanksIn}
-use Rattle.rows.specs.Rooms.{rowAt, RowLies}
+use Rattle.entry.specs.Entry.{rankOf}
+use Rattle.entry.specs.Inner.{RanksIn}
+use Rattle.rows.specs.Rooms.{rowAt}
+use Rattle.rows.specs.Inner.{RowLies}
 use Rattle.rows.proofs.Laws.{row-ends, length-used}
-use Rattle.walk.specs.Explore.{RowSound, DropIn}
+use Rattle.walk.specs.Inner.{RisingRow, DropIn}
 
-module _ {n w : ℕ} {labels counts : List ℕ} {v : ℕ} (d : RowSound n w labels counts v) where
+module _ {n w : ℕ} {labels counts : List ℕ} {v : ℕ} (d : RisingRow n w labels counts v) where
   pub row-long : length (rowAt w labels counts v) ≡ getD counts v 0
   row-long = length-used labels counts (d .labels-long) (d .frame) (d .rows .fits v (d .frame))
 
   pub row-low : (i : ℕ) → i < length (rowAt w labels counts v) → rankOf (getD (rowAt w labels counts v) i 0) < n
   row-low i h = d .rows .ranks v i (d .frame) (omega (arith, row-long))
 
-pub row-lies : {w : ℕ} {labels counts : List ℕ} {v : ℕ} → RowSound (length counts) w labels counts v → RowLies w labels counts v
+pub row-lies : {w : ℕ} {labels counts : List ℕ} {v : ℕ} → RisingRow (length counts) w labels counts v → RowLies w labels counts v
 row-lies {v = v} d = record { counted = d .frame; lies = row-ends (d .labels-long) (d .frame) (d .rows .fits v (d .frame)) }
 
 -- of a list that is the row, every rank has its note

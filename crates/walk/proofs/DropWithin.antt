@@ -13,7 +13,7 @@ use Rattle.theory.proofs.Rule.{place-in}
 use Rattle.theory.proofs.Answer.{at-le, at-in}
 use Rattle.entry.specs.Entry.{rankOf, joinsOf, decode}
 use Rattle.entry.proofs.Laws.{length-decode, getD-decode, in-decoded}
-use Rattle.walk.specs.Explore.{entryWithin, within}
+use Rattle.walk.specs.Inner.{entryWithin, rowWithin}
 
 -- an entry of the rank bounds them
 at-entry : (B : ℕ) (row : List ℕ) (i : ℕ) → i < length row → at B (decode row) (rankOf (getD row i 0)) ≤ joinsOf (getD row i 0)
@@ -27,8 +27,8 @@ Notes B n own noted = (r : ℕ) → r < n → at B own r ≡ min B (getD noted r
 -- the drop test is the answer's comparison with the level
 pub within-answer : (B n : ℕ) (own : Row) (noted row : List ℕ) (level : ℕ) → Notes B n own noted
     → ((i : ℕ) → i < length row → rankOf (getD row i 0) < n) → level < B
-    → within noted row level ≡ leb (answer B n own (decode row)) level
-unfolding within answer
+    → rowWithin noted row level ≡ leb (answer B n own (decode row)) level
+unfolding rowWithin answer
 within-answer B n own noted row level notes low small =
     let sums : ℕ → ℕ = λ r. at B own r + at B (decode row) r in
     same-truth _ _

@@ -13,10 +13,9 @@ use Rattle.basics.specs.Places.{some, stands}
 use Rattle.basics.proofs.Laws.{bcase, by-cases, lt-or-ge, not-both, both, both-true, not-of-true, not-of-false, cond-true, cond-false, some-one, some-not, some-none, stands-at, stands-not, stands-none, stands-other}
 use Rattle.theory.specs.Rows.{Row}
 use Rattle.entry.specs.Entry.{entryOf}
-use Rattle.rows.specs.Laid.{Laid, rowsIn}
-use Rattle.walk.specs.Walk.{mark}
-use Rattle.walk.specs.Explore.{Queued}
-use Rattle.walk.specs.Settle.{isKept, lacksRoom, isFar, fitsAll, noneFar, gain, rowsAfter, SettleIn, settleOf}
+use Rattle.rows.specs.Inner.{Laid}
+use Rattle.rows.specs.Laid.{rowsIn}
+use Rattle.walk.specs.Inner.{mark, Queued, isKept, lacksRoom, isFar, fitsAll, noneFar, gain, rowsAfter, SettleIn, settleOf}
 use Rattle.walk.specs.declared.Walked.the-variants.{Made, Full}
 use Rattle.rows.proofs.LaidLaws.{laid-gain, laid-ext, count-at}
 

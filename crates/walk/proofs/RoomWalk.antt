@@ -12,10 +12,10 @@ use Rattle.basics.proofs.Laws.{bcase, lt-or-ge, same-truth, cond-true, cond-fal
 use Rattle.theory.specs.Distance.{far}
 use Rattle.theory.specs.Rows.{Row, keep}
 use Rattle.theory.specs.Walk.{walkRow}
-use Rattle.rows.specs.Laid.{Laid, rowsIn}
-use Rattle.walk.specs.Walk.{soFar, levelOf, kept, mark, metRoom, walkFits}
-use Rattle.walk.specs.Explore.{ExploreIn}
-use Rattle.walk.specs.Settle.{isKept, lacksRoom, isFar, fitsAll, noneFar, gain, rowsAfter, decided, settleOf, walkedRows, walkNear, walkOf, ifMade, WalkOut}
+use Rattle.rows.specs.Inner.{Laid}
+use Rattle.rows.specs.Laid.{rowsIn}
+use Rattle.walk.specs.Walk.{soFar, levelOf, kept, walkFits, decided, walkedRows, walkNear, walkOf, ifMade}
+use Rattle.walk.specs.Inner.{mark, metRoom, ExploreIn, isKept, lacksRoom, isFar, fitsAll, noneFar, gain, rowsAfter, settleOf, WalkOut}
 use Rattle.walk.specs.declared.Walked.{Walked}
 use Rattle.walk.proofs.BfsWalk.{capped}
 use Rattle.rows.proofs.LaidLaws.{laid-ext}

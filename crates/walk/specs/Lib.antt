@@ -1,3 +1,2 @@
 pub mod Walk
-pub mod Explore
-pub mod Settle
+pub mod Inner

@@ -1,21 +1,20 @@
 // The first half of one hub's walk: every frame it meets, level by level. The met room then holds level + 1 for a frame
-// that is kept, and 65,536 more than that for one that is dropped. It only reads the rows, so the table of the hub's joins
+// that is kept, and `DROP_MARK` more than that for one that is dropped. It only reads the rows, so the table of the hub's joins
 // by rank is good for the whole of it.
 ghost use mathlib.Core.Path.{_≡_};
 ghost use Prim.Native.Nat.{_+_};
 ghost use lib.ListN.{length, getD};
-ghost use Rattle.entry.specs.Entry.{RanksIn};
-ghost use Rattle.rows.specs.Rooms.{rowAt, RowLies};
-ghost use Rattle.walk.specs.Walk.{metRoom};
-ghost use Rattle.walk.specs.Explore.{within, noteOf, notedBy, drops, DropIn, MeetIn, Grown};
-ghost use Rattle.walk.specs.Explore.{StepIn, SpreadIn, Bfs, ExploreIn, Queued, Low};
+ghost use Rattle.entry.specs.Inner.{RanksIn};
+ghost use Rattle.rows.specs.Rooms.{rowAt};
+ghost use Rattle.rows.specs.Inner.{RowLies};
+ghost use Rattle.walk.specs.Inner.{metRoom, rowWithin, noteOf, notedBy, drops, DropIn, MeetIn, Grown, StepIn, ReachIn, Bfs, ExploreIn, Queued, Low};
 use crate::LACKING;
 use entry::Entry;
 use entry::joins_of;
 use entry::rank_of;
 
 // What the met room has more for a dropped frame: above every level.
-pub const DROPPED: u32 = 65536;
+pub const DROP_MARK: u32 = 65536;
 
 // What is noted for an entry: its joins, or LACKING where its rank is forgotten.
 fn note_of(e: Entry, forget: bool) -> u32
@@ -54,7 +53,7 @@ fn row_of<'a, 'b>(w: usize, labels: &'a [Entry], counts: &'b [u32], v: usize) ->
 // Whether a row and the noted one have an answer of at most `level`. A rank that is not noted gives a sum above it.
 fn near(row: &[Entry], noted: &[u32], level: usize) -> bool
     requires { ⌜ RanksIn (now row) (now noted) ⌝ }
-    ensures { λ r. ⌜ r ≡ within (now (noted .entry)) (now (row .entry)) level ⌝ }
+    ensures { λ r. ⌜ r ≡ rowWithin (now (noted .entry)) (now (row .entry)) level ⌝ }
 {
     let mut i = 0;
     while i < row.len() {
@@ -82,7 +81,8 @@ fn meet(
 ) -> usize
     requires { ⌜ MeetIn (now starts) (now places) u mark (now met) (now queue) tail ⌝ }
     ensures { λ r. ⌜
-        Grown (now (starts .entry)) (now (places .entry)) u (getD (now (starts .entry)) (u + 1) 0) mark
+        Grown (now (starts .entry)) (now (places .entry)) u (getD (now (starts .entry)) (u + 1) 0)
+        mark
         (now (met .entry)) (now (queue .entry)) tail (now (met .exit)) (now (queue .exit)) r
         ⌝ }
 {
@@ -111,7 +111,9 @@ fn dropped(
     level: usize,
 ) -> bool
     requires { ⌜ DropIn (length (now counts)) w (now labels) (now counts) (now noted) u ⌝ }
-    ensures { λ r. ⌜ r ≡ drops w (now (labels .entry)) (now (counts .entry)) (now (noted .entry)) u level ⌝ }
+    ensures { λ r. ⌜
+        r ≡ drops w (now (labels .entry)) (now (counts .entry)) (now (noted .entry)) u level
+        ⌝ }
 {
     let row = row_of(w, labels, counts, u);
     near(row, noted, level)
@@ -131,12 +133,14 @@ fn step(
     tail: usize,
 ) -> usize
     requires { ⌜
-        StepIn (length (now counts)) w (now starts) (now places) (now labels) (now counts) (now noted) (now met) (now queue)
+        StepIn (length (now counts)) w (now starts) (now places) (now labels) (now counts)
+        (now noted) (now met) (now queue)
         head tail
         ⌝ }
     ensures { λ r. ⌜
         Bfs (length (now (counts .entry))) (now (starts .entry)) (now (places .entry))
-        (drops w (now (labels .entry)) (now (counts .entry)) (now (noted .entry))) (getD (now (queue .entry)) 0 0)
+        (drops w (now (labels .entry)) (now (counts .entry)) (now (noted .entry)))
+        (getD (now (queue .entry)) 0 0)
         (now (met .exit)) (now (queue .exit)) (head + 1) r
         ⌝ }
 {
@@ -144,14 +148,14 @@ fn step(
     let mark = met[u];
     let level = (mark - 1) as usize;
     if dropped(w, labels, counts, noted, u, level) {
-        met[u] = mark + DROPPED;
+        met[u] = mark + DROP_MARK;
         return tail;
     }
     meet(starts, places, u, mark + 1, met, queue, tail)
 }
 
 // The walk from the hub, level by level along the queue; gives back how many frames it met.
-fn spread(
+fn reach(
     w: usize,
     starts: &[u32],
     places: &[u32],
@@ -163,7 +167,8 @@ fn spread(
     queue: &mut [u32],
 ) -> usize
     requires { ⌜
-        SpreadIn (length (now counts)) w (now starts) (now places) (now labels) (now counts) (now noted) hub (now met)
+        ReachIn (length (now counts)) w (now starts) (now places) (now labels) (now counts)
+        (now noted) hub (now met)
         (now queue)
         ⌝ }
     ensures { λ r. ⌜
@@ -207,13 +212,15 @@ pub fn explore(
     noted: &mut [u32],
 ) -> usize
     requires { ⌜
-        ExploreIn (length (now counts)) w (now starts) (now places) (now labels) (now counts) hub (now met) (now queue)
+        ExploreIn (length (now counts)) w (now starts) (now places) (now labels) (now counts) hub
+        (now met) (now queue)
         (now noted)
         ⌝ }
     ensures notes { λ _. ⌜ now (noted .exit) ≡ now (noted .entry) ⌝ }
     ensures levels { λ _. ⌜
         now (met .exit)
-        ≡ metRoom (length (now (counts .entry))) w (now (starts .entry)) (now (places .entry)) (now (labels .entry))
+        ≡ metRoom (length (now (counts .entry))) w (now (starts .entry)) (now (places .entry))
+        (now (labels .entry))
         (now (counts .entry)) hub
         ⌝ }
     ensures frames { λ r. ⌜ Queued (now (met .exit)) (now (queue .exit)) r ⌝ }
@@ -221,7 +228,7 @@ pub fn explore(
 {
     let own = row_of(w, labels, counts, hub);
     note(own, false, noted);
-    let tail = spread(w, starts, places, labels, counts, noted, hub, met, queue);
+    let tail = reach(w, starts, places, labels, counts, noted, hub, met, queue);
     note(own, true, noted);
     tail
 }

@@ -7,13 +7,16 @@ use crate::settle::settle;
 use entry::Entry;
 ghost use mathlib.Core.Path.{_≡_};
 ghost use lib.ListN.{length};
-ghost use Rattle.walk.specs.Settle.{WalkIn, WalkOut};
+ghost use Rattle.walk.specs.Inner.{WalkIn, WalkOut};
 
 mod explore;
 mod settle;
 
 // The joins noted for a rank that the hub's row lacks: above every level.
 pub const LACKING: u32 = 65536;
+
+// The mark of a frame that has the most joins: one more than its level.
+const MOST_MARK: usize = refusal::sizes::MOST_JOINS + 1;
 
 // What became of a walk: made as a whole, or refused for room or for too many joins with nothing stored.
 pub enum Walked {
@@ -36,11 +39,14 @@ pub fn walk(
     noted: &mut [u32],
 ) -> Walked
     requires { ⌜
-        WalkIn (length (now counts)) w (now starts) (now places) (now labels) (now counts) hub (now met) (now queue) (now noted)
+        WalkIn (length (now counts)) w (now starts) (now places) (now labels) (now counts) hub
+        (now met) (now queue) (now noted)
         ⌝ }
     ensures walked { λ r. ⌜
-        WalkOut (length (now (counts .entry))) w (now (starts .entry)) (now (places .entry)) (now (labels .entry))
-        (now (counts .entry)) rank hub r (now (labels .exit)) (now (counts .exit)) (now (met .exit)) (now (queue .exit))
+        WalkOut (length (now (counts .entry))) w (now (starts .entry)) (now (places .entry))
+        (now (labels .entry))
+        (now (counts .entry)) rank hub r (now (labels .exit)) (now (counts .exit)) (now (met .exit))
+        (now (queue .exit))
         ⌝ }
     ensures notes { λ r. ⌜ now (noted .exit) ≡ now (noted .entry) ⌝ }
 {

@@ -1,7 +1,8 @@
 // Phase two of one hub's walk. The frames that it met stand in the queue, their marks in the met room. First each kept
 // frame is tested for room, and only then is anything stored, so that the walk is made as a whole or not at all.
+use crate::MOST_MARK;
 use crate::Walked;
-use crate::explore::DROPPED;
+use crate::explore::DROP_MARK;
 use entry::Entry;
 use entry::entry_of;
 ghost use mathlib.Core.Path.{_≡_};
@@ -9,9 +10,10 @@ ghost use mathlib.Core.Bool.{true, cond};
 ghost use Prim.Native.Nat.{_+_, _-_, _*_, _<_};
 ghost use lib.ListN.{length, getD, set, replicate};
 ghost use Rattle.entry.specs.Entry.{entryOf};
-ghost use Rattle.rows.specs.Laid.{Laid, rowsIn};
-ghost use Rattle.walk.specs.Explore.{Queued};
-ghost use Rattle.walk.specs.Settle.{isKept, lacksRoom, fitsAll, GiveIn, SettleIn, settleOf, rowsAfter, ifMade};
+ghost use Rattle.rows.specs.Inner.{Laid};
+ghost use Rattle.rows.specs.Laid.{rowsIn};
+ghost use Rattle.walk.specs.Inner.{Queued, isKept, lacksRoom, fitsAll, GiveIn, SettleIn, settleOf, rowsAfter};
+ghost use Rattle.walk.specs.Walk.{ifMade};
 
 // A met frame with this count and mark is kept and has no room. Few rows are full, so that the count is looked at first.
 pub fn lacks_room(w: usize, count: u32, mark: u32) -> bool
@@ -21,7 +23,7 @@ pub fn lacks_room(w: usize, count: u32, mark: u32) -> bool
     if (count as usize) < w {
         return false;
     }
-    mark < DROPPED
+    mark < DROP_MARK
 }
 
 // Every kept frame has room for one more entry.
@@ -47,15 +49,17 @@ pub fn give(w: usize, rank: usize, v: usize, mark: u32, labels: &mut [Entry], co
     ensures { λ r. ⌜
         now (labels .exit)
         ≡ cond (isKept mark)
-        (set (now (labels .entry)) (v * w + getD (now (counts .entry)) v 0) (entryOf rank (mark - 1)))
+        (set (now (labels .entry)) (v * w + getD (now (counts .entry)) v 0)
+        (entryOf rank (mark - 1)))
         (now (labels .entry))
         ⌝ }
     ensures { λ r. ⌜
         now (counts .exit)
-        ≡ cond (isKept mark) (set (now (counts .entry)) v (getD (now (counts .entry)) v 0 + 1)) (now (counts .entry))
+        ≡ cond (isKept mark) (set (now (counts .entry)) v (getD (now (counts .entry)) v 0 + 1))
+        (now (counts .entry))
         ⌝ }
 {
-    if DROPPED <= mark {
+    if DROP_MARK <= mark {
         return;
     }
     let count = counts[v];
@@ -76,7 +80,8 @@ pub fn store(
     tail: usize,
 )
     requires { ⌜
-        SettleIn w (now labels) (now counts) (now met) (now queue) tail × (fitsAll w (now counts) (now met) ≡ true)
+        SettleIn w (now labels) (now counts) (now met) (now queue) tail
+        × (fitsAll w (now counts) (now met) ≡ true)
         ⌝ }
     ensures { λ r. ⌜
         Laid (length (now (met .entry))) w
@@ -122,14 +127,15 @@ pub fn settle(
     ensures { λ r. ⌜ r ≡ settleOf w (now (counts .entry)) (now (met .entry)) ⌝ }
     ensures { λ r. ⌜
         Laid (length (now (met .entry))) w
-        (λ v. ifMade r (rowsAfter w rank (now (labels .entry)) (now (counts .entry)) (now (met .entry)) v)
+        (λ v. ifMade r
+        (rowsAfter w rank (now (labels .entry)) (now (counts .entry)) (now (met .entry)) v)
         (rowsIn w (now (labels .entry)) (now (counts .entry)) v))
         (now (labels .exit)) (now (counts .exit))
         ⌝ }
 {
     let room = fits(w, counts, met, queue, tail);
     if room {
-        if tail <= 4096 {
+        if tail <= MOST_MARK {
             store(w, rank, labels, counts, met, queue, tail);
             return Walked::Made;
         }

@@ -8,7 +8,7 @@ use Rattle.basics.proofs.Laws.{read-off}
 use Rattle.refusal.specs.declared.Refusal.{Refusal}
 use Rattle.refusal.specs.declared.Verdict.{Verdict}
 use Rattle.fields.specs.Bits.{fieldAt, byteLen}
-use Rattle.file.specs.Reader.{framesOf, stopOf, headerTest, headerOf, told}
+use Rattle.file.specs.Reader.{framesOf, stopOf, headerTest, headerOf, openedTold}
 use Rattle.file.specs.declared.Opened.{Opened}
 use Rattle.file.proofs.Heading.{opened-fine, opened-refused, version-short, version-other, frames-short, stop-short, stop-over, spare-set, header-fine}
 use Rattle.fields.proofs.Bits.{field-lt}
@@ -17,9 +17,9 @@ use Rattle.file.proofs.header.Tie as tie
 
 -- a refusal of the tests is what is answered
 refuses : (s : List ℕ) {a : Opened} {r : Refusal} → a ≡ Opened.Refused r → headerTest s ≡ Verdict.Refused r
-    → (a ≡ headerOf s) × (told a ≡ told (headerOf s))
+    → (a ≡ headerOf s) × (openedTold a ≡ openedTold (headerOf s))
 unfolding headerOf
-refuses s e h = read-off told (e ∙ opened-refused _ _ h)
+refuses s e h = read-off openedTold (e ∙ opened-refused _ _ h)
 
 closed-requires : tie.Need-closed-requires
 closed-requires c κs = search needs
@@ -109,7 +109,7 @@ unfolding framesOf stopOf headerOf
 returns-7 c =
     let k = c .before .before .before in
     let l = k .before .before in
-    read-off told
+    read-off openedTold
     (ap₂ Opened.Index (ap (λ (x : ℕ). x + 1) (k .before .get2 .ensures)) (k .get3 .ensures)
     ∙ opened-fine _ _
     (header-fine _ (l .if4 .left) (version (l .before .before)) (stop-in (c .before .before)) (sym (c .before .get4 .ensures) ∙ c .if6 .left)))

@@ -6,7 +6,7 @@ use denote.Ref.{now}
 use lib.ListN.{length}
 use Rattle.basics.proofs.Laws.{read-off}
 use Rattle.refusal.specs.declared.Verdict.{Verdict}
-use Rattle.file.specs.Reader.{framesOf, stopOf, readTest, Outcome, told}
+use Rattle.file.specs.Reader.{framesOf, stopOf, readTest, ReadOutcome, openedTold}
 use Rattle.file.proofs.Reader.{readable, stores-order, stores-rows, read-refused, read-fine}
 use Rattle.file.proofs.Heading.{index-is, refused-is}
 use Rattle.file.proofs.read.Statement.{statement}
@@ -24,7 +24,7 @@ enum-told c = search needs
 returns : tie.Need-returns
 returns c =
     let g = c .enum-told .given .1 in
-    read-off (λ (out : Outcome). told (out .answer)) (read-refused _ _ _ _ _ g (refused-is _ _ _ (sym g ∙ c .before .before .file .ensures)))
+    read-off (λ (out : ReadOutcome). openedTold (out .answer)) (read-refused _ _ _ _ _ g (refused-is _ _ _ (sym g ∙ c .before .before .file .ensures)))
 
 -- the tests are fine, and these are the file's n and k
 found : (c : tie.After-known-told) →
@@ -59,7 +59,7 @@ returns-2 c =
     let r = c .before .before .before .before in
     let o = r .before .before .before .before .before in
     let (e, p, q) = found (o .before .before) in
-    read-off (λ (out : Outcome). told (out .answer)) (read-fine _ _ _ _ _ e p q (o .order .ensures) (r .rows .ensures .0) (r .rows .ensures .1))
+    read-off (λ (out : ReadOutcome). openedTold (out .answer)) (read-fine _ _ _ _ _ e p q (o .order .ensures) (r .rows .ensures .0) (r .rows .ensures .1))
 
 pub read-spec : {M : Type 1} → statement M
 read-spec =

@@ -14,7 +14,8 @@ use Rattle.refusal.specs.Numbers.{OUT}
 use Rattle.refusal.specs.declared.Verdict.the-variants.{Fine}
 use Rattle.refusal.proofs.Laws.{test-refused}
 use Rattle.fields.specs.Layout.{fileOf}
-use Rattle.file.specs.Writer.{writeTests, outFits, outTest, wrote, Fit}
+use Rattle.file.specs.Writer.{writeTests, outFits, outTest, writeOutcome}
+use Rattle.file.specs.Inner.{Fit}
 use Rattle.file.specs.declared.Written.{Written}
 use Rattle.file.proofs.Fit.{fit, file-bytes}
 use Rattle.file.proofs.Writing.{out-held, out-fits, write-refused, write-out, write-filled, put-back}
@@ -24,18 +25,18 @@ use Rattle.file.proofs.write.Tie as tie
 -- the tests on the index passed
 fine : (c : tie.After-enum-told) →
     let a = c .before .before .before .before .before .before .before .args in
-    writeTests (a .n) (a .k) (a .w) (now (a .order)) (now (a .labels)) (now (a .counts)) ≡ Fine
+    writeTests (a .n) (a .w) (a .k) (now (a .order)) (now (a .labels)) (now (a .counts)) ≡ Fine
 fine c = sym (c .before .before .tests .ensures) ∙ c .enum-told .given .1
 
 passed : (c : tie.After-enum-told) →
     let a = c .before .before .before .before .before .before .before .args in
-    Fit (a .n) (a .k) (a .w) (now (a .order)) (now (a .labels)) (now (a .counts))
+    Fit (a .n) (a .w) (a .k) (now (a .order)) (now (a .labels)) (now (a .counts))
 passed c = fit _ _ _ _ _ _ (fine c)
 
 -- the bytes counted are those of the file
 bytes : (c : tie.After-size) →
     let a = c .before .before .before .before .before .before .before .before .args in
-    c .size .result ≡ length (fileOf (a .n) (a .k) (a .w) (now (a .order)) (now (a .labels)) (now (a .counts)))
+    c .size .result ≡ length (fileOf (a .n) (a .w) (a .k) (now (a .order)) (now (a .labels)) (now (a .counts)))
 bytes c = c .size .ensures ∙ sym (file-bytes _ _ _ _ _ _ (passed (c .before)))
 
 -- the stretch that is lent has their length
@@ -47,11 +48,11 @@ stretch out start size h l =
 
 -- and holds them when it comes back
 back : (out last file : List ℕ) (start size : ℕ) → last ≡ file → size ≡ length file →
-    wrote (Written.Bytes size) (take start out ++ (last ++ drop (start + size - start) (drop start out)))
-    ≡ wrote (Written.Bytes (length file)) (take start out ++ (file ++ drop (start + length file) out))
+    writeOutcome (Written.Bytes size) (take start out ++ (last ++ drop (start + size - start) (drop start out)))
+    ≡ writeOutcome (Written.Bytes (length file)) (take start out ++ (file ++ drop (start + length file) out))
 back out last file start size e d =
-    ap₂ (λ (m : ℕ) (l : List ℕ). wrote (Written.Bytes m) (take start out ++ (l ++ drop (start + size - start) (drop start out)))) d e
-    ∙ ap (wrote (Written.Bytes (length file))) (put-back out file start (start + size - start) (add-sub-cancel-left start size ∙ d))
+    ap₂ (λ (m : ℕ) (l : List ℕ). writeOutcome (Written.Bytes m) (take start out ++ (l ++ drop (start + size - start) (drop start out)))) d e
+    ∙ ap (writeOutcome (Written.Bytes (length file))) (put-back out file start (start + size - start) (add-sub-cancel-left start size ∙ d))
 
 tests-requires : tie.Need-tests-requires
 tests-requires c κs = search needs

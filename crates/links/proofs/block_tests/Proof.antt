@@ -1,8 +1,9 @@
--- `links::block_tests` meets its contract: at each return the tests that led there say which test of `degreeTests` decides.
+-- `links::block_tests` meets its contract: at each return the tests that led there say which test decides.
 use mathlib.Core.Path.{sym, _∙_}
 use borrow.Author.Needs.{needs}
+use borrow.Author.Tests.{not-true, not-false}
+use Rattle.refusal.proofs.Laws.{test-fine, test-refused, after-fine, after-refused}
 use Rattle.links.proofs.Links.{sizes-held}
-use Rattle.links.proofs.Placing.{degree-sizes, degree-room, degree-alone}
 use Rattle.links.proofs.block_tests.Statement.{statement}
 use Rattle.links.proofs.block_tests.Tie as tie
 
@@ -18,7 +19,7 @@ enum-told-2 c = search needs
 returns : tie.Need-returns
 returns c =
     let told = c .enum-told2 .given .1 in
-    told ∙ sym (degree-sizes _ _ _ _ (sym (c .before .before .tests .ensures) ∙ told))
+    told ∙ sym (after-refused _ (sym (c .before .before .tests .ensures) ∙ told))
 
 refused-requires : tie.Need-refused-requires
 refused-requires c κs = search needs
@@ -27,7 +28,8 @@ returns-2 : tie.Need-returns-2
 returns-2 c =
     c .refused .ensures
     ∙ sym
-    (degree-room _ _ _ _ (sym (c .before .before .before .before .tests .ensures) ∙ c .before .before .enum-told .given .1) (c .before .if1 .taken))
+    (after-fine _ (sym (c .before .before .before .before .tests .ensures) ∙ c .before .before .enum-told .given .1)
+    ∙ after-refused _ (test-refused _ _ (not-true _ (c .before .if1 .taken))))
 
 tests-requires-2 : tie.Need-tests-requires-2
 tests-requires-2 c κs = sizes-held _ _ _ (sym (c .before .before .before .tests .ensures) ∙ c .before .enum-told .given .1)
@@ -36,7 +38,8 @@ returns-3 : tie.Need-returns-3
 returns-3 c =
     c .tests2 .ensures
     ∙ sym
-    (degree-alone _ _ _ _ (sym (c .before .before .before .before .tests .ensures) ∙ c .before .before .enum-told .given .1) (c .before .if1 .left))
+    (after-fine _ (sym (c .before .before .before .before .tests .ensures) ∙ c .before .before .enum-told .given .1)
+    ∙ after-fine _ (test-fine _ _ (not-false _ (c .before .if1 .left))))
 
 pub block-tests-spec : {M : Type 1} → statement M
 block-tests-spec =

@@ -2,7 +2,7 @@
 use mathlib.Core.Path.{_≡_, sym, ap, _∙_}
 use borrow.Author.Needs.{needs}
 use Rattle.refusal.specs.Told.{verdictTold}
-use Rattle.links.specs.Order.{Ordered}
+use Rattle.links.specs.Order.{degreeTests, Ordered}
 use Rattle.links.proofs.Placing.{degree-passed, degree-refused, degree-filled}
 use Rattle.links.proofs.order_by_degree.Statement.{statement}
 use Rattle.links.proofs.order_by_degree.Tie as tie
@@ -21,17 +21,20 @@ enum-told-2 : tie.Need-enum-told-2
 enum-told-2 c = search needs
 
 returns : tie.Need-returns
+unfolding degreeTests
 returns c =
     let told = c .enum-told2 .given .1 in
     both (degree-refused _ _ _ _ (sym (c .before .before .block-tests .ensures) ∙ told) told)
 
 fill-requires : tie.Need-fill-requires
+unfolding degreeTests
 fill-requires c κs = degree-passed _ _ _ _ (sym (c .before .before .before .block-tests .ensures) ∙ c .before .enum-told .given .1)
 
 same-length : tie.Need-same-length
 same-length c = search needs
 
 returns-2 : tie.Need-returns-2
+unfolding degreeTests
 returns-2 c =
     both
     (degree-filled _ _ _ _ _ (sym (c .before .before .before .before .before .before .block-tests .ensures) ∙ c .before .before .before .before .enum-told .given .1)

@@ -6,13 +6,13 @@ use mathlib.Core.List.{List, _++_}
 use lib.ListN.{length, drop, take-append-drop}
 use lib.Seq.{length-take-le}
 use borrow.Author.Needs.{needs}
-use Rattle.listing.specs.Text.{Put}
+use Rattle.listing.specs.Inner.{PutText}
 use Rattle.listing.specs.Listing.{listedIn}
 use Rattle.listing.proofs.listing.Statement.{statement}
 use Rattle.listing.proofs.listing.Tie as tie
 
 -- the room by its front and what is behind it
-put-front : {room last text : List ℕ} {end : ℕ} → Put room 0 text last end → (end ≡ length text) × (last ≡ text ++ drop (length text) room)
+put-front : {room last text : List ℕ} {end : ℕ} → PutText room 0 text last end → (end ≡ length text) × (last ≡ text ++ drop (length text) room)
 put-front {room} {last} {text} {end} p =
     let e : end ≡ length text = omega (arith, p .ends) in
     (e, sym (take-append-drop end last) ∙ (λ i. p .holds i ++ p .rest i) ∙ ap (λ (k : ℕ). text ++ drop k room) e)

@@ -45,8 +45,8 @@ walk-requires c κs =
     let t = c .before .before .before .before .before .before in
     run-ready (t .before .before .before .before .before .before .before .before .before .before .pre) (t .before .loop .inv) (t .loop-test .taken)
 
-verdict-of-requires : tie.Need-verdict-of-requires Inv-loop μ-loop
-verdict-of-requires c κs = search needs
+walk-verdict-requires : tie.Need-walk-verdict-requires Inv-loop μ-loop
+walk-verdict-requires c κs = search needs
 
 enum-told : tie.Need-enum-told Inv-loop μ-loop
 enum-told c = search needs
@@ -85,7 +85,7 @@ returns c =
     let w = v .before .before .before .before .before .before .before .before .before .before .before in
     let t = w .before .before .before .before .before .before .before in
     run-stops (t .before .before .before .before .before .before .before .before .before .before .pre) (t .before .loop .inv) (t .loop-test .taken) (w .walk .ensures .0) (w .walk .ensures .1)
-    (v .verdict-of .ensures) (c .enum-told2 .given .1)
+    (v .walk-verdict .ensures) (c .enum-told2 .given .1)
 
 add-rank : tie.Need-add-rank Inv-loop μ-loop
 add-rank c = omega arith
@@ -99,7 +99,7 @@ loop-again c =
     let w = v .before .before .before .before .before .before .before .before .before .before .before in
     let t = w .before .before .before .before .before .before .before in
     run-next (t .before .before .before .before .before .before .before .before .before .before .pre) (t .before .loop .inv) (t .loop-test .taken) (w .walk .ensures .0) (w .walk .ensures .1)
-    (sym (v .verdict-of .ensures) ∙ c .enum-told .given .1)
+    (sym (v .walk-verdict .ensures) ∙ c .enum-told .given .1)
 
 same-length-6 : tie.Need-same-length-6 Inv-loop μ-loop
 same-length-6 c = as-long (c .before) .of-labels
@@ -130,7 +130,7 @@ run-spec =
     shared-slice-read-hub
     cast-hub
     walk-requires
-    verdict-of-requires
+    walk-verdict-requires
     enum-told
     enum-told-2
     same-length

@@ -6,8 +6,8 @@ use Rattle.build.proofs.BuildTests.{sizes-hold, tests-size, tests-lengt
 use Rattle.build.proofs.tests.tests.Statement.{statement}
 use Rattle.build.proofs.tests.tests.Tie as tie
 
-sizes-fit-requires : tie.Need-sizes-fit-requires
-sizes-fit-requires c κs = search needs
+build-sizes-requires : tie.Need-build-sizes-requires
+build-sizes-requires c κs = search needs
 
 refused-requires : tie.Need-refused-requires
 refused-requires c κs = search needs
@@ -16,11 +16,11 @@ returns : tie.Need-returns
 returns c =
     let f = c .before in
     c .refused .ensures
-    ∙ sym (tests-size _ _ _ _ _ _ _ _ _ _ (sym (f .before .sizes-fit .ensures) ∙ not-true _ (f .if1 .taken)))
+    ∙ sym (tests-size _ _ _ _ _ _ _ _ _ _ (sym (f .before .build-sizes .ensures) ∙ not-true _ (f .if1 .taken)))
 
-rooms-fit-requires : tie.Need-rooms-fit-requires
-rooms-fit-requires c κs =
-    let s = sizes-hold _ _ _ _ (sym (c .before .sizes-fit .ensures) ∙ not-false _ (c .if1 .left)) in
+build-rooms-requires : tie.Need-build-rooms-requires
+build-rooms-requires c κs =
+    let s = sizes-hold _ _ _ _ (sym (c .before .build-sizes .ensures) ∙ not-false _ (c .if1 .left)) in
     (s .fit .frames, s .fit .width)
 
 refused-requires-2 : tie.Need-refused-requires-2
@@ -32,8 +32,8 @@ returns-2 c =
     let f = g .before .before in
     c .refused2 .ensures
     ∙ sym
-    (tests-length _ _ _ _ _ _ _ _ _ _ (sym (f .before .sizes-fit .ensures) ∙ not-false _ (f .if1 .left))
-    (sym (g .before .rooms-fit .ensures) ∙ not-true _ (g .if2 .taken)))
+    (tests-length _ _ _ _ _ _ _ _ _ _ (sym (f .before .build-sizes .ensures) ∙ not-false _ (f .if1 .left))
+    (sym (g .before .build-rooms .ensures) ∙ not-true _ (g .if2 .taken)))
 
 check-links-requires : tie.Need-check-links-requires
 check-links-requires c κs = search needs
@@ -50,8 +50,8 @@ returns-3 c =
     let f = g .before .before in
     c .enum-told2 .given .1
     ∙ sym
-    (tests-links _ _ _ _ _ _ _ _ _ _ (sym (f .before .sizes-fit .ensures) ∙ not-false _ (f .if1 .left))
-    (sym (g .before .rooms-fit .ensures) ∙ not-false _ (g .if2 .left)) _
+    (tests-links _ _ _ _ _ _ _ _ _ _ (sym (f .before .build-sizes .ensures) ∙ not-false _ (f .if1 .left))
+    (sym (g .before .build-rooms .ensures) ∙ not-false _ (g .if2 .left)) _
     (sym (c .before .before .check-links .ensures .0) ∙ c .enum-told2 .given .1))
 
 check-order-requires : tie.Need-check-order-requires
@@ -63,18 +63,18 @@ returns-4 c =
     let f = g .before .before in
     c .check-order .ensures .0
     ∙ sym
-    (tests-order _ _ _ _ _ _ _ _ _ _ (sym (f .before .sizes-fit .ensures) ∙ not-false _ (f .if1 .left))
-    (sym (g .before .rooms-fit .ensures) ∙ not-false _ (g .if2 .left))
+    (tests-order _ _ _ _ _ _ _ _ _ _ (sym (f .before .build-sizes .ensures) ∙ not-false _ (f .if1 .left))
+    (sym (g .before .build-rooms .ensures) ∙ not-false _ (g .if2 .left))
     (sym (c .before .before .before .check-links .ensures .0) ∙ c .before .enum-told .given .1))
 
 pub tests-spec : {M : Type 1} → statement M
 tests-spec =
     tie.close
     (tie.spec
-    sizes-fit-requires
+    build-sizes-requires
     refused-requires
     returns
-    rooms-fit-requires
+    build-rooms-requires
     refused-requires-2
     returns-2
     check-links-requires

@@ -1,7 +1,7 @@
 -- Each arm gives what the definition gives for that answer, and the build promises the answer with the rooms.
 use mathlib.Core.Path.{ap}
 use borrow.Author.Needs.{needs}
-use Rattle.build.specs.Build.{builtNumber, builtPlace, builtEntries}
+use Rattle.build.specs.Build.{builtTold}
 use Rattle.capi.specs.Outs.{buildOuts}
 use Rattle.capi.proofs.build_calls.seam_build.Statement.{statement}
 use Rattle.capi.proofs.build_calls.seam_build.Tie as tie
@@ -28,7 +28,7 @@ same-length-4 : tie.Need-same-length-4
 same-length-4 c = search needs
 
 returns : tie.Need-returns
-unfolding buildOuts builtNumber builtPlace builtEntries
+unfolding buildOuts builtTold
 returns c =
     ap buildOuts (rw (c .before .total .given .1) at (c .before .before .before .before .before .before .before .before .before .before .before .build .ensures))
 
@@ -45,7 +45,7 @@ same-length-8 : tie.Need-same-length-8
 same-length-8 c = search needs
 
 returns-2 : tie.Need-returns-2
-unfolding buildOuts builtNumber builtPlace builtEntries
+unfolding buildOuts builtTold
 returns-2 c =
     ap buildOuts (rw (c .before .r .given .1) at (c .before .before .before .before .before .before .before .before .before .before .before .build .ensures))
 

@@ -1,7 +1,6 @@
 -- Each arm gives what the definition gives for that answer.
 use borrow.Author.Needs.{needs}
-use Rattle.file.specs.Reader.{told}
-use Rattle.capi.specs.Outs.{headerOuts}
+use Rattle.file.specs.Reader.{openedTold}
 use Rattle.capi.proofs.file_calls.opened.Statement.{statement}
 use Rattle.capi.proofs.file_calls.opened.Tie as tie
 
@@ -12,11 +11,11 @@ enum-known-answer-2 : tie.Need-enum-known-answer-2
 enum-known-answer-2 c = search needs
 
 returns : tie.Need-returns
-unfolding headerOuts told
+unfolding openedTold
 returns c = rw (c .before .answer .given .1)
 
 returns-2 : tie.Need-returns-2
-unfolding headerOuts told
+unfolding openedTold
 returns-2 c = rw (c .before .answer2 .given .1)
 
 pub opened-spec : {M : Type 1} → statement M

@@ -1,7 +1,7 @@
 -- Each arm gives what the definition gives for that answer, and the writer promises the answer's numbers with the room.
 use mathlib.Core.Path.{ap}
 use borrow.Author.Needs.{needs}
-use Rattle.file.specs.Writer.{wrote}
+use Rattle.file.specs.Writer.{writtenTold}
 use Rattle.capi.specs.Outs.{writeOuts}
 use Rattle.capi.proofs.file_calls.seam_write.Statement.{statement}
 use Rattle.capi.proofs.file_calls.seam_write.Tie as tie
@@ -19,14 +19,14 @@ same-length : tie.Need-same-length
 same-length c = search needs
 
 returns : tie.Need-returns
-unfolding writeOuts wrote
+unfolding writeOuts writtenTold
 returns c = ap writeOuts (rw (c .before .filled .given .1) at (c .before .before .before .before .before .write .ensures))
 
 same-length-2 : tie.Need-same-length-2
 same-length-2 c = search needs
 
 returns-2 : tie.Need-returns-2
-unfolding writeOuts wrote
+unfolding writeOuts writtenTold
 returns-2 c = ap writeOuts (rw (c .before .r .given .1) at (c .before .before .before .before .before .write .ensures))
 
 pub seam-write-spec : {M : Type 1} → statement M

@@ -1,8 +1,6 @@
 -- Each arm gives what the definition gives for that answer.
-use mathlib.Core.Path.{ap}
 use borrow.Author.Needs.{needs}
-use Rattle.rows.specs.Pair.{told}
-use Rattle.capi.specs.Outs.{pairOuts}
+use Rattle.rows.specs.Pair.{pairTold}
 use Rattle.capi.proofs.row_calls.seam_pair.Statement.{statement}
 use Rattle.capi.proofs.row_calls.seam_pair.Tie as tie
 
@@ -19,16 +17,16 @@ enum-known-r : tie.Need-enum-known-r
 enum-known-r c = search needs
 
 returns : tie.Need-returns
-unfolding pairOuts told
-returns c = ap pairOuts (rw (c .before .sum .given .1) at (c .before .before .before .pair .ensures .1))
+unfolding pairTold
+returns c = rw (c .before .sum .given .1) at (c .before .before .before .pair .ensures .1)
 
 returns-2 : tie.Need-returns-2
-unfolding pairOuts told
-returns-2 c = ap pairOuts (rw (c .enum-told .given .1) at (c .before .before .pair .ensures .1))
+unfolding pairTold
+returns-2 c = rw (c .enum-told .given .1) at (c .before .before .pair .ensures .1)
 
 returns-3 : tie.Need-returns-3
-unfolding pairOuts told
-returns-3 c = ap pairOuts (rw (c .before .r .given .1) at (c .before .before .before .pair .ensures .1))
+unfolding pairTold
+returns-3 c = rw (c .before .r .given .1) at (c .before .before .before .pair .ensures .1)
 
 pub seam-pair-spec : {M : Type 1} → statement M
 seam-pair-spec = tie.close (tie.spec pair-requires enum-known-sum enum-told enum-known-r returns returns-2 returns-3)

@@ -4,11 +4,10 @@ use native.Mathlib.Omega.{arith}
 use mathlib.Core.Path.{_≡_, sym, _∙_}
 use borrow.Author.Needs.{needs}
 use Rattle.refusal.specs.Tests.{ifFine}
-use Rattle.refusal.specs.Told.{verdictTold}
 use Rattle.refusal.specs.declared.Verdict.the-variants.{Fine}
 use Rattle.rows.specs.Rooms.{checkRow}
 use Rattle.rows.proofs.PairLaws.{checked-row, row-by}
-use Rattle.capi.specs.Outs.{rowOuts}
+use Rattle.rows.specs.Lookup.{partTold, rowTold}
 use Rattle.capi.proofs.row_calls.seam_row.Statement.{statement}
 use Rattle.capi.proofs.row_calls.seam_row.Tie as tie
 
@@ -40,18 +39,15 @@ enum-known-r : tie.Need-enum-known-r
 enum-known-r c = search needs
 
 returns : tie.Need-returns
-unfolding rowOuts ifFine verdictTold
+unfolding rowTold partTold ifFine
 returns c =
     let e = fine (c .before) in
     let (row, start) = row-by _ _ _ _ _ e in
     rw (e, row, start, checked-row _ _ _ _ _ e .1)
 
 returns-2 : tie.Need-returns-2
-unfolding rowOuts ifFine verdictTold
-returns-2 c =
-    let e = sym (c .before .before .before .check-row .ensures .0) ∙ c .before .r .given .1 in
-    let (row, start) = row-by _ _ _ _ _ e in
-    rw (e, row, start)
+unfolding rowTold partTold
+returns-2 c = rw (sym (c .before .before .before .check-row .ensures .0) ∙ c .before .r .given .1)
 
 pub seam-row-spec : {M : Type 1} → statement M
 seam-row-spec =

@@ -1,8 +1,6 @@
 -- Each arm gives the numbers of that answer, and the spread question promises the answer.
-use mathlib.Core.Path.{ap}
 use borrow.Author.Needs.{needs}
 use Rattle.rows.specs.Spread.{spreadTold}
-use Rattle.capi.specs.Outs.{spreadOuts}
 use Rattle.capi.proofs.row_calls.seam_spread.Statement.{statement}
 use Rattle.capi.proofs.row_calls.seam_spread.Tie as tie
 
@@ -16,12 +14,12 @@ enum-known-r : tie.Need-enum-known-r
 enum-known-r c = search needs
 
 returns : tie.Need-returns
-unfolding spreadOuts spreadTold
-returns c = ap spreadOuts (rw (c .before .joins .given .1) at (c .before .before .before .spread .ensures .1))
+unfolding spreadTold
+returns c = rw (c .before .joins .given .1) at (c .before .before .before .spread .ensures .1)
 
 returns-2 : tie.Need-returns-2
-unfolding spreadOuts spreadTold
-returns-2 c = ap spreadOuts (rw (c .before .r .given .1) at (c .before .before .before .spread .ensures .1))
+unfolding spreadTold
+returns-2 c = rw (c .before .r .given .1) at (c .before .before .before .spread .ensures .1)
 
 pub seam-spread-spec : {M : Type 1} → statement M
 seam-spread-spec = tie.close (tie.spec spread-requires enum-known-joins enum-known-r returns returns-2)

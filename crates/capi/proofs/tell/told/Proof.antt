@@ -1,7 +1,6 @@
 -- Each arm gives what the definition gives for that verdict.
 use borrow.Author.Needs.{needs}
 use Rattle.refusal.specs.Told.{verdictTold}
-use Rattle.capi.specs.Outs.{testOuts}
 use Rattle.capi.proofs.tell.told.Statement.{statement}
 use Rattle.capi.proofs.tell.told.Tie as tie
 
@@ -12,11 +11,11 @@ enum-known-verdict : tie.Need-enum-known-verdict
 enum-known-verdict c = search needs
 
 returns : tie.Need-returns
-unfolding testOuts verdictTold
+unfolding verdictTold
 returns c = rw (c .enum-told .given .1)
 
 returns-2 : tie.Need-returns-2
-unfolding testOuts verdictTold
+unfolding verdictTold
 returns-2 c = rw (c .before .verdict .given .1)
 
 pub told-spec : {M : Type 1} → statement M

@@ -5,13 +5,12 @@ use mathlib.Core.List.{List, []}
 use native.Mathlib.Omega.{arith}
 use borrow.Author.Needs.{needs}
 use denote.Ref.{now}
-use lib.ListN.{length, set, take}
-use lib.ListN.{length-set}
+use lib.ListN.{length, set, take, length-set}
 use lib.Seq.{take-suc-set}
 use lib.Arith.{lt-one}
 use lib.Pow.{pow-add, shl-exact, shl-lt}
 use Rattle.fields.specs.Bits.{val, bitLen, byteLen, padLen}
-use Rattle.fields.specs.Pen.{penBits, penNum, Ready, Closed}
+use Rattle.fields.specs.Inner.{penBits, penNum, Ready, Closed}
 use Rattle.fields.specs.declared.put.Pen.{Pen}
 use Rattle.fields.proofs.Bits.{val-snoc, horner}
 use Rattle.fields.proofs.put.close.Statement.{statement}

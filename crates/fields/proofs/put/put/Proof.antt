@@ -9,7 +9,7 @@ use borrow.Author.Needs.{needs}
 use lib.Pow.{pow-mono, shl-exact}
 use Rattle.fields.specs.declared.put.Pen.{Pen}
 use Rattle.fields.specs.Bits.{bitLen, num, field}
-use Rattle.fields.specs.Pen.{penNum, Ready}
+use Rattle.fields.specs.Inner.{penNum, Ready}
 use Rattle.fields.proofs.Byte.{BytesLeft, byte-room, byte-step, whole-lt, byte-none, byte-end}
 use Rattle.fields.proofs.Gather.{cut}
 use Rattle.fields.proofs.put.put.Statement.{statement}

@@ -5,16 +5,16 @@ use native.Mathlib.Omega.{arith}
 use native.Mathlib.Nat.{sub-zero}
 use borrow.Author.Needs.{needs}
 use lib.ListN.{length, getD}
-use Rattle.fields.specs.Layout.{fieldsFrom, pairFields, entryFields}
+use Rattle.fields.specs.Layout.{fieldsFrom, entryFields, entriesFields}
 use Rattle.fields.proofs.LayoutLaws.{fields-next, fields-end}
-use Rattle.fields.specs.Pen.{Left}
+use Rattle.fields.specs.Inner.{Left}
 use Rattle.fields.proofs.Pen.{left-start, left-ready, left-step, left-end}
 use Rattle.fields.proofs.put.put_entries.Statement.{statement}
 use Rattle.fields.proofs.put.put_entries.Tie as tie
 
 abbrev Inv-loop : tie.InvT-loop
 Inv-loop out₀ row tip₀ i₀ out tip i =
-    (i ≤ length row) × Left out₀ tip₀ (entryFields row) out tip (fieldsFrom (λ j. pairFields (getD row j 0)) i (length row - i))
+    (i ≤ length row) × Left out₀ tip₀ (entriesFields row) out tip (fieldsFrom (λ j. entryFields (getD row j 0)) i (length row - i))
 
 abbrev μ-loop : tie.MeasureT-loop
 μ-loop out₀ row tip₀ i₀ out tip i = length row - i

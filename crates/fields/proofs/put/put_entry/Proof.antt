@@ -9,9 +9,9 @@ use lib.ListN.{set}
 use lib.Pow.{pow-mono, low, mod-mod-pow}
 use Rattle.entry.specs.Entry.{rankOf, joinsOf}
 use Rattle.fields.specs.declared.put.Pen.{Pen}
-use Rattle.fields.specs.Bits.{Legal, num}
-use Rattle.fields.specs.Layout.{pairFields}
-use Rattle.fields.specs.Pen.{penBits, penNum, Ready, Put}
+use Rattle.fields.specs.Inner.{Legal, penBits, penNum, Ready, Put}
+use Rattle.fields.specs.Bits.{num}
+use Rattle.fields.specs.Layout.{entryFields}
 use Rattle.fields.proofs.LayoutLaws.{pair-bits}
 use Rattle.fields.proofs.Byte.{BytesLeft, byte-room, byte-step, byte-none, byte-end}
 use Rattle.fields.proofs.Gather.{cut}
@@ -37,7 +37,7 @@ third o p whole = set (second o p whole) (p .at + 2) (whole / 2 ^ p .nb % 256)
 
 -- a pen with room for an entry, and its two parts
 record Given (e : ℕ) (o : List ℕ) (p : Pen) (rank joins : ℕ) : Type 0 where
-  ready : Ready o p (pairFields e)
+  ready : Ready o p (entryFields e)
   its-rank : rank ≡ rankOf e
   its-joins : joins ≡ joinsOf e
 
@@ -59,25 +59,25 @@ module _ {e : ℕ} {o : List ℕ} {p : Pen} {rank joins : ℕ} (g : Given e o p 
   whole-fits : wholeOf (p .acc) rank joins < 2 ^ 64
   whole-fits = omega (arith, both-lt, held-lt)
 
-  both-is : bothOf rank joins ≡ num 0 (pairFields e)
+  both-is : bothOf rank joins ≡ num 0 (entryFields e)
   unfolding num
   both-is = omega (arith, rank-lt, g .its-rank, g .its-joins)
 
   whole-is : wholeOf (p .acc) rank joins ≡ p .acc * 2 ^ 24 + bothOf rank joins
   whole-is = omega (arith, held-lt)
 
-  none : BytesLeft o (num (penNum o p) (pairFields e)) (penBits p + 24) (wholeOf (p .acc) rank joins) o (p .at) (p .nb + 24)
+  none : BytesLeft o (num (penNum o p) (entryFields e)) (penBits p + 24) (wholeOf (p .acc) rank joins) o (p .at) (p .nb + 24)
   none = byte-none (g .ready) 24 (pair-bits e) (whole-is ∙ ap (λ (y : ℕ). p .acc * 2 ^ 24 + y) both-is)
 
-  one : BytesLeft o (num (penNum o p) (pairFields e)) (penBits p + 24) (wholeOf (p .acc) rank joins)
+  one : BytesLeft o (num (penNum o p) (entryFields e)) (penBits p + 24) (wholeOf (p .acc) rank joins)
       (first o p (wholeOf (p .acc) rank joins)) (p .at + 1) (p .nb + 16)
   one = byte-step none (p .nb + 16) (omega arith) _ refl
 
-  two : BytesLeft o (num (penNum o p) (pairFields e)) (penBits p + 24) (wholeOf (p .acc) rank joins)
+  two : BytesLeft o (num (penNum o p) (entryFields e)) (penBits p + 24) (wholeOf (p .acc) rank joins)
       (second o p (wholeOf (p .acc) rank joins)) (p .at + 2) (p .nb + 8)
   two = byte-step one (p .nb + 8) (omega arith) (p .at + 2) (omega arith)
 
-  three : BytesLeft o (num (penNum o p) (pairFields e)) (penBits p + 24) (wholeOf (p .acc) rank joins)
+  three : BytesLeft o (num (penNum o p) (entryFields e)) (penBits p + 24) (wholeOf (p .acc) rank joins)
       (third o p (wholeOf (p .acc) rank joins)) (p .at + 3) (p .nb)
   three = byte-step two (p .nb) (omega arith) (p .at + 3) (omega arith)
 
@@ -89,7 +89,7 @@ module _ {e : ℕ} {o : List ℕ} {p : Pen} {rank joins : ℕ} (g : Given e o p 
       sym (ap (λ (x : ℕ). x % 2 ^ p .nb) whole-is ∙ sym (mod-mod-pow y (24 - p .nb) (p .nb))
       ∙ ap (λ (j : ℕ). y % 2 ^ j % 2 ^ p .nb) (sym wide) ∙ ap (λ (x : ℕ). x % 2 ^ p .nb) (low (p .acc) 24 both-lt))
 
-  put-all : Put o p (pairFields e) (third o p (wholeOf (p .acc) rank joins))
+  put-all : Put o p (entryFields e) (third o p (wholeOf (p .acc) rank joins))
       (record { at = p .at + 3; acc = bothOf rank joins - bothOf rank joins / 2 ^ p .nb * 2 ^ p .nb % 2 ^ 64; nb = p .nb })
   put-all = byte-end (g .ready) 24 (pair-bits e) three (g .ready .small) (cut (bothOf rank joins) (p .nb) (omega (arith, both-lt)) .1 ∙ last)
 

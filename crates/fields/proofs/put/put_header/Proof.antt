@@ -6,7 +6,7 @@ use borrow.Author.Needs.{needs}
 use denote.Ref.{now}
 use Rattle.fields.specs.Bits.{field}
 use Rattle.fields.specs.Layout.{headerFields}
-use Rattle.fields.specs.Pen.{Left}
+use Rattle.fields.specs.Inner.{Left}
 use Rattle.fields.proofs.Pen.{left-start, next-ready, next-step}
 use Rattle.fields.proofs.put.put_header.Statement.{statement}
 use Rattle.fields.proofs.put.put_header.Tie as tie

@@ -7,7 +7,7 @@ use borrow.Author.Needs.{needs}
 use lib.ListN.{length, getD}
 use Rattle.fields.specs.Layout.{fieldsFrom, frameFields, orderFields}
 use Rattle.fields.proofs.LayoutLaws.{fields-next, fields-end}
-use Rattle.fields.specs.Pen.{Left}
+use Rattle.fields.specs.Inner.{Left}
 use Rattle.fields.proofs.Pen.{left-start, left-ready, left-step, left-end}
 use Rattle.fields.proofs.put.put_order.Statement.{statement}
 use Rattle.fields.proofs.put.put_order.Tie as tie

@@ -8,15 +8,15 @@ use denote.Ref.{now}
 use lib.ListN.{getD, take, drop}
 use Rattle.rows.proofs.Laws.{cut}
 use Rattle.fields.specs.Bits.{field}
-use Rattle.fields.specs.Layout.{rowFields, entryFields}
-use Rattle.fields.specs.Pen.{Ready, Left}
+use Rattle.fields.specs.Layout.{rowFields, entriesFields}
+use Rattle.fields.specs.Inner.{Ready, Left}
 use Rattle.fields.proofs.Pen.{left-start, left-step, next-ready, next-step}
 use Rattle.fields.proofs.put.put_row.Statement.{statement}
 use Rattle.fields.proofs.put.put_row.Tie as tie
 
 begun : {o : List ℕ} {p : _} (w : ℕ) (labels counts : List ℕ) (v : ℕ) → Ready o p (rowFields w labels counts v) →
     let c : ℕ = getD counts v 0 in
-    Left o p (rowFields w labels counts v) o p (field c 9 ∷ entryFields (take (v * w + c - v * w) (drop (v * w) labels)))
+    Left o p (rowFields w labels counts v) o p (field c 9 ∷ entriesFields (take (v * w + c - v * w) (drop (v * w) labels)))
 unfolding rowFields
 begun w labels counts v r = rw (cut w labels counts v) (left-start r)
 
@@ -58,7 +58,7 @@ counted : (c : tie.After-put) →
     let a = s .args in
     let count : ℕ = getD (now (a .counts)) (a .v) 0 in
     Left (now (a .out)) (a .pen) (rowFields (a .w) (now (a .labels)) (now (a .counts)) (a .v)) (c .put .last .0) (c .put .result)
-    (entryFields (take (a .v * a .w + count - a .v * a .w) (drop (a .v * a .w) (now (a .labels)))))
+    (entriesFields (take (a .v * a .w + count - a .v * a .w) (drop (a .v * a .w) (now (a .labels)))))
 counted c =
     let s = c .before .before .before .before .before .before in
     let a = s .args in

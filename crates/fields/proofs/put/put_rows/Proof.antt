@@ -6,7 +6,7 @@ use borrow.Author.Needs.{needs}
 use native.Mathlib.Nat.{sub-zero}
 use Rattle.fields.specs.Layout.{rowsFields}
 use Rattle.fields.proofs.LayoutLaws.{fields-next, fields-end}
-use Rattle.fields.specs.Pen.{Left}
+use Rattle.fields.specs.Inner.{Left}
 use Rattle.fields.proofs.Pen.{left-start, left-ready, left-step, left-end}
 use Rattle.fields.proofs.put.put_rows.Statement.{statement}
 use Rattle.fields.proofs.put.put_rows.Tie as tie

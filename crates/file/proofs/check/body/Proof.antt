@@ -35,7 +35,7 @@ ordered c = sym (c .before .before .order .ensures) ∙ c .enum-told .given .1
 rowed : (c : tie.After-known-told) →
     let a = c .before .before .before .before .before .before .before .before .args in
     let s = a .bytes .now in
-    (rowsFrom s (a .n) (a .k) (a .w) 0 (a .n) ≡ Verdict.Fine) × (c .before .found .given .0 .0 ≡ rowBit s (a .n) (a .n))
+    (rowsFrom s (a .n) (a .w) (a .k) 0 (a .n) ≡ Verdict.Fine) × (c .before .found .given .0 .0 ≡ rowBit s (a .n) (a .n))
 rowed c = went-on _ _ (sym (c .before .found .given .1) ∙ c .before .before .before .rows .ensures)
 
 rows-requires : tie.Need-rows-requires

@@ -81,7 +81,7 @@ returns-3 c =
 left-over : (c : tie.Else2) →
     let g = c .before .before .before .headed .given .0 in
     let a = c .before .before .before .before .before .before .before .before .before .args in
-    readTest (a .bytes .now) (a .w) (a .order) (a .labels) (a .counts) ≡ bodyTest (a .bytes .now) (g .0) (g .1 .0) (a .w)
+    readTest (a .bytes .now) (a .w) (a .order) (a .labels) (a .counts) ≡ bodyTest (a .bytes .now) (g .0) (a .w) (g .1 .0)
 left-over c =
     let h = c .before .before in
     let (e, p, q) = headed-by h in

@@ -3,7 +3,7 @@ use Prim.Native.Nat.{ℕ, _+_, _*_, _<_}
 use mathlib.Core.Path.{_≡_, sym, ap, _∙_}
 use native.Mathlib.Omega.{arith}
 use borrow.Author.Needs.{needs}
-use Rattle.file.specs.Reader.{shortTest, entriesFrom, rowTest, behind}
+use Rattle.file.specs.Reader.{shortTest, entriesFrom, rowFieldsTest, bitBehind}
 use Rattle.refusal.specs.declared.Verdict.{Verdict}
 use Rattle.fields.specs.Bits.{fieldAt}
 use Rattle.file.proofs.Fields.{row-count, row-room, row-entries}
@@ -43,7 +43,7 @@ returns-2 c =
 -- the count is legal and fits: the entries are left
 left-over : (c : tie.Else1) →
     let a = c .before .before .before .before .before .before .args in
-    rowTest (a .bytes .now) (a .n) (a .k) (a .w) (a .v) (a .p)
+    rowFieldsTest (a .bytes .now) (a .n) (a .w) (a .k) (a .v) (a .p)
     ≡ entriesFrom (a .bytes .now) (a .n) (a .k) (a .p + 9) 0 (c .before .before .got .given .0 .0)
 left-over c =
     let (e, is, most) = counted (c .before) in
@@ -73,7 +73,7 @@ add-t14 : tie.Need-add-t14
 add-t14 c = omega (arith, counted (c .before .before .before .before) .2)
 
 returns-4 : tie.Need-returns-4
-unfolding behind
+unfolding bitBehind
 returns-4 c =
     let t = c .before .before in
     let f = t .before .before in

@@ -7,18 +7,18 @@ use borrow.Author.Needs.{needs}
 use native.Mathlib.Nat.{sub-zero}
 use native.Mathlib.Numerals.{add-one}
 use Rattle.refusal.proofs.Laws.{tests-stop, tests-on, tests-end}
-use Rattle.file.specs.Reader.{rowTest, behind, rowBit, rowsFrom}
+use Rattle.file.specs.Reader.{rowFieldsTest, bitBehind, rowBit, rowsFrom}
 use Rattle.file.proofs.Inversion.{bit-near}
 use Rattle.file.proofs.Steps.{step-fine, step-refused, went-on, stopped}
 use Rattle.file.proofs.check.rows.Statement.{statement}
 use Rattle.file.proofs.check.rows.Tie as tie
 
 abbrev Inv-loop : tie.InvT-loop
-Inv-loop bytes n k w v₀ p₀ v p = (v ≤ n) × (p ≡ rowBit bytes n v) × (rowsFrom bytes n k w v (n - v) ≡ rowsFrom bytes n k w 0
+Inv-loop bytes n w k v₀ p₀ v p = (v ≤ n) × (p ≡ rowBit bytes n v) × (rowsFrom bytes n w k v (n - v) ≡ rowsFrom bytes n w k 0
     n)
 
 abbrev μ-loop : tie.MeasureT-loop
-μ-loop bytes n k w v₀ p₀ v p = n - v
+μ-loop bytes n w k v₀ p₀ v p = n - v
 
 mul-p : tie.Need-mul-p Inv-loop μ-loop
 mul-p c = omega arith
@@ -50,7 +50,7 @@ returns c =
     g
     ∙ step-refused _
     (sym left
-    ∙ tests-stop _ _ _ (t .loop-test .taken) (ap (rowTest _ _ _ _ _) (sym at) ∙ stopped _ _ (sym g ∙ r .row .ensures)))
+    ∙ tests-stop _ _ _ (t .loop-test .taken) (ap (rowFieldsTest _ _ _ _ _) (sym at) ∙ stopped _ _ (sym g ∙ r .row .ensures)))
 
 add-v : tie.Need-add-v Inv-loop μ-loop
 add-v c = omega arith
@@ -67,8 +67,8 @@ loop-again c =
     let (_, at, left) = l .inv in
     let (e, q) = went-on _ _ (sym (c .before .got .given .1) ∙ r .row .ensures) in (
       omega arith,
-      q ∙ ap (behind _) at ∙ ap (rowBit _ _) (sym (add-one (l .v))),
-      tests-on _ _ _ (t .loop-test .taken) (ap (rowTest _ _ _ _ _) (sym at) ∙ e) ∙ left,
+      q ∙ ap (bitBehind _) at ∙ ap (rowBit _ _) (sym (add-one (l .v))),
+      tests-on _ _ _ (t .loop-test .taken) (ap (rowFieldsTest _ _ _ _ _) (sym at) ∙ e) ∙ left,
     )
 
 returns-2 : tie.Need-returns-2 Inv-loop μ-loop

@@ -2,7 +2,7 @@
 use Prim.Native.Nat.{_-_}
 use mathlib.Core.Path.{refl}
 use native.Mathlib.Omega.{arith}
-use Rattle.file.specs.Stores.{nought}
+use Rattle.file.specs.Inner.{nought}
 use Rattle.file.proofs.Stores.{FillLeft, fill-none, fill-more, fill-all}
 use Rattle.file.proofs.store.clear.Statement.{statement}
 use Rattle.file.proofs.store.clear.Tie as tie

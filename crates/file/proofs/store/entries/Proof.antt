@@ -6,7 +6,7 @@ use native.Mathlib.Omega.{arith}
 use native.Mathlib.Nat.{add-sub-cancel-left}
 use Rattle.fields.specs.Bits.{byteLen}
 use Rattle.file.specs.Reader.{entryAt}
-use Rattle.file.specs.Stores.{filled, entryFrom}
+use Rattle.file.specs.Inner.{filled, entryFrom}
 use Rattle.file.proofs.Stores.{FillLeft, fill-none, fill-more, fill-all}
 use Rattle.file.proofs.store.entries.Statement.{statement}
 use Rattle.file.proofs.store.entries.Tie as tie

@@ -10,8 +10,8 @@ use Rattle.fields.proofs.Bits.{pair-parts}
 use Rattle.file.proofs.store.entry.Statement.{statement}
 use Rattle.file.proofs.store.entry.Tie as tie
 
-pair-requires : tie.Need-pair-requires
-pair-requires c κs = search needs
+both-requires : tie.Need-both-requires
+both-requires c κs = search needs
 
 entry-of-requires : tie.Need-entry-of-requires
 entry-of-requires c κs = search needs
@@ -29,10 +29,10 @@ returns : tie.Need-returns
 unfolding entryAt byteLen
 returns c =
     let a = c .before .before .before .before .args in
-    let (rank, joins) = pair-parts _ (a .p) (omega (arith, c .before .before .before .before .pre .1)) (c .before .pair .ensures) in
+    let (rank, joins) = pair-parts _ (a .p) (omega (arith, c .before .before .before .before .pre .1)) (c .before .both .ensures) in
     ap (set (a .labels .now) (a .at)) (c .entry-of .ensures ∙ ap₂ entryOf rank joins)
 
 pub entry-spec : {M : Type 1} → statement M
 entry-spec =
     tie.close
-    (tie.spec pair-requires entry-of-requires mul-labels slice-write-labels same-length returns)
+    (tie.spec both-requires entry-of-requires mul-labels slice-write-labels same-length returns)

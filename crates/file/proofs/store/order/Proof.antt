@@ -5,7 +5,7 @@ use native.Mathlib.Omega.{arith}
 use native.Mathlib.Nat.{sub-zero}
 use Rattle.fields.specs.Bits.{byteLen}
 use Rattle.file.specs.Reader.{frameAt}
-use Rattle.file.specs.Stores.{filled}
+use Rattle.file.specs.Inner.{filled}
 use Rattle.file.proofs.Stores.{FillLeft, fill-none, fill-more, fill-all}
 use Rattle.fields.proofs.Bits.{field-lt}
 use Rattle.file.proofs.store.order.Statement.{statement}

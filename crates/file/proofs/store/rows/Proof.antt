@@ -5,7 +5,7 @@ use mathlib.Core.Path.{refl}
 use native.Mathlib.Omega.{arith}
 use lib.ListN.{length}
 use Rattle.fields.specs.Bits.{byteLen}
-use Rattle.file.specs.Stores.{Row}
+use Rattle.file.specs.Inner.{RowThere}
 use Rattle.file.proofs.Stores.{RowsLeft, rows-none, next-room, next-row, next-left, rows-stored}
 use Rattle.fields.proofs.Bits.{field-lt}
 use Rattle.file.proofs.store.rows.Statement.{statement}
@@ -49,7 +49,7 @@ slice-write-counts c = omega arith
 counted : (g : tie.After-get Inv-loop μ-loop) →
     let l = g .before .before .loop in
     let a = g .before .before .before .before .before .before .args in
-    Row (a .bytes .now) (l .p) (g .get .result) (a .w) (length (l .labels)) (l .base)
+    RowThere (a .bytes .now) (l .p) (g .get .result) (a .w) (length (l .labels)) (l .base)
 counted g =
     let l = g .before .before in
     next-row (l .before .before .before .before .pre) (l .loop .inv) (g .before .loop-test .taken) (g .get .ensures)

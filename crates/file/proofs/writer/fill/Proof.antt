@@ -2,17 +2,16 @@
 -- of the stretch is then the number of the fields, and a stretch of bytes is known by its number.
 use Prim.Native.Nat.{ℕ, _*_, _^_, _≤_}
 use mathlib.Core.Path.{_≡_, refl, sym, ap, ap₂, _∙_}
-use mathlib.Core.List.{List, [], _++_}
+use mathlib.Core.List.{List, [], _++_, append-nil}
 use native.Mathlib.Omega.{arith}
 use borrow.Author.Needs.{needs}
 use denote.Ref.{now}
 use lib.ListN.{length}
-use mathlib.Core.List.{append-nil}
 use lib.Seq.{take-all}
 use Rattle.fields.specs.Bits.{Field, Bytes, val, bitLen, num, bytesOf, byteLen, padLen, packed}
 use Rattle.fields.specs.Layout.{headerFields, orderFields, rowsFields, fileFields, fileOf}
-use Rattle.fields.specs.Pen.{penBits, penNum, Left, Put, Closed}
-use Rattle.file.specs.Writer.{Fit}
+use Rattle.fields.specs.Inner.{penBits, penNum, Left, Put, Closed}
+use Rattle.file.specs.Inner.{Fit}
 use Rattle.fields.specs.declared.put.Pen.{Pen}
 use Rattle.fields.proofs.Bits.{val-bytes}
 use Rattle.fields.proofs.Packed.{packed-length, pad-len}
@@ -25,16 +24,16 @@ abbrev empty : Pen
 empty = record { at = 0; acc = 0; nb = 0 }
 
 -- a stretch as long as the packed fields has room for them
-begun : (o : List ℕ) (n k w : ℕ) (O labels counts : List ℕ) → Fit n k w O labels counts → length o ≡ length (fileOf n k w O labels counts) →
-    Left o empty (fileFields n k w O labels counts) o empty (headerFields n k ++ (orderFields O ++ rowsFields w labels counts 0 n))
+begun : (o : List ℕ) (n w k : ℕ) (O labels counts : List ℕ) → Fit n w k O labels counts → length o ≡ length (fileOf n w k O labels counts) →
+    Left o empty (fileFields n w k O labels counts) o empty (headerFields n k ++ (orderFields O ++ rowsFields w labels counts 0 n))
 unfolding fileOf fileFields
-begun o n k w O labels counts f e =
-    let fs : List Field = fileFields n k w O labels counts in
+begun o n w k O labels counts f e =
+    let fs : List Field = fileFields n w k O labels counts in
     left-start (record {
       small = omega arith;
       below = omega arith;
       space = omega (arith, packed-length fs, pad-len (bitLen fs));
-      legal = fit-legal n k w O labels counts f;
+      legal = fit-legal n w k O labels counts f;
     })
 
 -- all fields put, the last byte filled up: the stretch is the file
@@ -52,7 +51,7 @@ ended o o1 o2 p fs e u d b =
 -- after the header; after the order; after the rows
 headed : (c : tie.After-put-header) →
     let a = c .before .before .before .before .before .before .args in
-    Left (now (a .out)) empty (fileFields (a .n) (a .k) (a .w) (now (a .order)) (now (a .labels)) (now (a .counts)))
+    Left (now (a .out)) empty (fileFields (a .n) (a .w) (a .k) (now (a .order)) (now (a .labels)) (now (a .counts)))
     (c .put-header .last .0) (c .put-header .result) (orderFields (now (a .order)) ++ rowsFields (a .w) (now (a .labels)) (now (a .counts)) 0 (a .n))
 headed c =
     let s = c .before .before .before .before .before .before in
@@ -60,13 +59,13 @@ headed c =
 
 ordered : (c : tie.After-put-order) →
     let a = c .before .before .before .before .before .before .before .before .before .before .args in
-    Left (now (a .out)) empty (fileFields (a .n) (a .k) (a .w) (now (a .order)) (now (a .labels)) (now (a .counts)))
+    Left (now (a .out)) empty (fileFields (a .n) (a .w) (a .k) (now (a .order)) (now (a .labels)) (now (a .counts)))
     (c .put-order .last .0) (c .put-order .result) (rowsFields (a .w) (now (a .labels)) (now (a .counts)) 0 (a .n))
 ordered c = left-step (headed (c .before .before .before .before)) _ _ refl (c .put-order .ensures)
 
 finished : (c : tie.After-put-rows) →
     let a = c .before .before .before .before .before .before .before .before .before .before .before .before .before .before .args in
-    Left (now (a .out)) empty (fileFields (a .n) (a .k) (a .w) (now (a .order)) (now (a .labels)) (now (a .counts)))
+    Left (now (a .out)) empty (fileFields (a .n) (a .w) (a .k) (now (a .order)) (now (a .labels)) (now (a .counts)))
     (c .put-rows .last .0) (c .put-rows .result) []
 finished c = left-step (ordered (c .before .before .before .before)) _ [] (sym (append-nil _)) (c .put-rows .ensures)
 

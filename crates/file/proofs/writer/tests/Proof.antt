@@ -24,24 +24,24 @@ use Rattle.file.proofs.writer.tests.Statement.{statement}
 use Rattle.file.proofs.writer.tests.Tie as tie
 
 -- what is left of the tests where the sizes fit, and where the lengths do too
-module _ (n k w : ℕ) (O labels counts : List ℕ) (s : indexSizes n k w ≡ true) where
+module _ (n w k : ℕ) (O labels counts : List ℕ) (s : indexSizes n w k ≡ true) where
   at-length : lengthsFit n w (length O) (length labels) (length counts) ≡ false
-      → writeTests n k w O labels counts ≡ Refused (refusal LENGTH 0)
+      → writeTests n w k O labels counts ≡ Refused (refusal LENGTH 0)
   unfolding writeTests
   at-length l = after-fine _ (test-fine SIZE 0 s) ∙ after-refused _ (test-refused LENGTH 0 l)
 
   at-order : lengthsFit n w (length O) (length labels) (length counts) ≡ true
-      → writeTests n k w O labels counts ≡ (checkOrder n O then checkRows k n w labels counts)
+      → writeTests n w k O labels counts ≡ (checkOrder n O then checkRows n w k labels counts)
   unfolding writeTests
   at-order l =
-      let (z, stop) = sizes-in n k w s in
+      let (z, stop) = sizes-in n w k s in
       let o : checkOrder n O ≡ orderTest n O =
       order-alone n O (z .some-frames) (z .frames) (fit-lengths n w (length O) (length labels) (length counts) l .0) in
-      let r : checkRows k n w labels counts ≡ rowsTest k n w labels counts = rows-alone k n w labels counts (rooms-in n k w O labels counts s l) in
+      let r : checkRows n w k labels counts ≡ rowsTest n w k labels counts = rows-alone n w k labels counts (rooms-in n w k O labels counts s l) in
       after-fine _ (test-fine SIZE 0 s) ∙ after-fine _ (test-fine LENGTH 0 l) ∙ ap₂ (λ (a b : Verdict). a then b) (sym o) (sym r)
 
-sizes-fit-requires : tie.Need-sizes-fit-requires
-sizes-fit-requires c κs = search needs
+index-sizes-requires : tie.Need-index-sizes-requires
+index-sizes-requires c κs = search needs
 
 refused-requires : tie.Need-refused-requires
 refused-requires c κs = search needs
@@ -50,11 +50,11 @@ returns : tie.Need-returns
 unfolding writeTests
 returns c =
     c .refused .ensures
-    ∙ sym (after-refused _ (test-refused SIZE 0 (sym (c .before .before .sizes-fit .ensures) ∙ not-true _ (c .before .if1 .taken))))
+    ∙ sym (after-refused _ (test-refused SIZE 0 (sym (c .before .before .index-sizes .ensures) ∙ not-true _ (c .before .if1 .taken))))
 
 -- 1 passed
-one-passed : (c : tie.Else1) → let a = c .before .before .before .before .before .args in indexSizes (a .n) (a .k) (a .w) ≡ true
-one-passed c = sym (c .before .sizes-fit .ensures) ∙ not-false _ (c .if1 .left)
+one-passed : (c : tie.Else1) → let a = c .before .before .before .before .before .args in indexSizes (a .n) (a .w) (a .k) ≡ true
+one-passed c = sym (c .before .index-sizes .ensures) ∙ not-false _ (c .if1 .left)
 
 lengths-fit-requires : tie.Need-lengths-fit-requires
 lengths-fit-requires c κs =
@@ -73,8 +73,8 @@ returns-2 c =
 -- 2 passed: the order and the rows are left
 left-over : (c : tie.Else2) →
     let a = c .before .before .before .before .before .before .before .args in
-    writeTests (a .n) (a .k) (a .w) (now (a .order)) (now (a .labels)) (now (a .counts))
-    ≡ (checkOrder (a .n) (now (a .order)) then checkRows (a .k) (a .n) (a .w) (now (a .labels)) (now (a .counts)))
+    writeTests (a .n) (a .w) (a .k) (now (a .order)) (now (a .labels)) (now (a .counts))
+    ≡ (checkOrder (a .n) (now (a .order)) then checkRows (a .n) (a .w) (a .k) (now (a .labels)) (now (a .counts)))
 left-over c =
     at-order _ _ _ _ _ _ (one-passed (c .before .before)) (sym (c .before .lengths-fit .ensures) ∙ not-false _ (c .if2 .left))
 
@@ -105,7 +105,7 @@ pub tests-spec : {M : Type 1} → statement M
 tests-spec =
     tie.close
     (tie.spec
-    sizes-fit-requires
+    index-sizes-requires
     refused-requires
     returns
     lengths-fit-requires

@@ -2,7 +2,7 @@
 use native.Mathlib.Omega.{arith}
 use mathlib.Core.Path.{_∙_}
 use borrow.Author.Needs.{needs}
-use Rattle.listing.specs.Lines.{Cut}
+use Rattle.listing.specs.Inner.{Cut}
 use Rattle.listing.proofs.TextLaws.{put-as}
 use Rattle.listing.proofs.IndexLaws.{openedText, refused-text, read-found, rows-found}
 use Rattle.listing.proofs.index.read.Statement.{statement}

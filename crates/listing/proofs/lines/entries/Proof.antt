@@ -3,7 +3,7 @@ use Prim.Native.Nat.{_+_, _-_, _*_, _≤_}
 use native.Mathlib.Omega.{arith}
 use mathlib.Core.Path.{_≡_, ap}
 use lib.ListN.{length, getD}
-use Rattle.listing.specs.Text.{Put}
+use Rattle.listing.specs.Inner.{PutText}
 use Rattle.listing.specs.Lines.{texts, entryText}
 use Rattle.listing.proofs.TextLaws.{put-none, put-as}
 use Rattle.listing.proofs.LineLaws.{put-text}
@@ -12,7 +12,7 @@ use Rattle.listing.proofs.lines.entries.Tie as tie
 
 abbrev Inv-loop : tie.InvT-loop
 Inv-loop out₀ at order row end₀ i₀ out end i =
-    (i ≤ length row) × Put out₀ at (texts (λ j. entryText order (getD row j 0)) i) out end × (end ≤ at + 42 * i)
+    (i ≤ length row) × PutText out₀ at (texts (λ j. entryText order (getD row j 0)) i) out end × (end ≤ at + 42 * i)
 
 abbrev μ-loop : tie.MeasureT-loop
 μ-loop out₀ at order row end₀ i₀ out end i = length row - i

@@ -6,9 +6,9 @@ use mathlib.Core.Path.{_≡_, sym, ap, subst, _∙_}
 use mathlib.Core.List.{List}
 use lib.ListN.{length}
 use denote.Ref.{now}
-use Rattle.entry.specs.Entry.{RanksIn}
+use Rattle.entry.specs.Inner.{RanksIn}
 use Rattle.rows.specs.Rooms.{rowAt}
-use Rattle.listing.specs.Text.{Put}
+use Rattle.listing.specs.Inner.{PutText}
 use Rattle.listing.specs.Lines.{WIDTH, texts, lineText, linesText}
 use Rattle.listing.proofs.TextLaws.{put-none, put-as}
 use Rattle.listing.proofs.LineLaws.{put-text, shown-row, shown-few, shown-ranks}
@@ -18,7 +18,7 @@ use Rattle.listing.proofs.lines.lines.Tie as tie
 abbrev Inv-loop : tie.InvT-loop
 Inv-loop out₀ at order labels counts end₀ v₀ out end v =
     (v ≤ length counts)
-    × Put out₀ at (linesText WIDTH order labels counts v) out end
+    × PutText out₀ at (linesText v WIDTH order labels counts) out end
     × (end ≤ at + 1365 * v)
 
 abbrev μ-loop : tie.MeasureT-loop

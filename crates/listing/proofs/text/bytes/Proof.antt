@@ -5,13 +5,13 @@ use native.Mathlib.Nat.{add-zero}
 use native.Mathlib.Omega.{arith}
 use lib.ListN.{length, take}
 use lib.Seq.{take-all}
-use Rattle.listing.specs.Text.{Put}
+use Rattle.listing.specs.Inner.{PutText}
 use Rattle.listing.proofs.TextLaws.{put-none, put-as, put-next}
 use Rattle.listing.proofs.text.bytes.Statement.{statement}
 use Rattle.listing.proofs.text.bytes.Tie as tie
 
 abbrev Inv-loop : tie.InvT-loop
-Inv-loop out₀ at text i₀ out i = (i ≤ length text) × Put out₀ at (take i text) out (at + i)
+Inv-loop out₀ at text i₀ out i = (i ≤ length text) × PutText out₀ at (take i text) out (at + i)
 
 abbrev μ-loop : tie.MeasureT-loop
 μ-loop out₀ at text i₀ out i = length text - i

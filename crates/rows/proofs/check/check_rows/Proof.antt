@@ -4,7 +4,7 @@ use borrow.Author.Needs.{needs}
 use Rattle.basics.proofs.Laws.{read-off}
 use Rattle.refusal.specs.Told.{verdictTold}
 use denote.Ref.{now}
-use Rattle.rows.specs.Rooms.{Rooms}
+use Rattle.rows.specs.Inner.{Rooms}
 use Rattle.rows.proofs.RoomLaws.{fine-rooms, rooms-refused, rows-fine, rows-refused}
 use Rattle.rows.proofs.check.check_rows.Statement.{statement}
 use Rattle.rows.proofs.check.check_rows.Tie as tie
@@ -31,7 +31,7 @@ returns c =
     read-off verdictTold
     (e
     ∙ sym
-    (rooms-refused (a .bound) (a .n) (a .w) (now (a .labels)) (now (a .counts))
+    (rooms-refused (a .n) (a .w) (a .bound) (now (a .labels)) (now (a .counts))
     (sym (c .before .before .check-rooms .ensures .0) ∙ e)))
 
 first-unsound-requires : tie.Need-first-unsound-requires

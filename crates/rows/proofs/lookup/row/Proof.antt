@@ -7,7 +7,8 @@ use borrow.Author.Needs.{needs}
 use denote.Ref.{now, ptr}
 use Rattle.refusal.specs.Tests.{ifFine}
 use Rattle.entry.specs.Entry.{entryBytes}
-use Rattle.rows.specs.Rooms.{RowLies, rowAt}
+use Rattle.rows.specs.Inner.{RowLies}
+use Rattle.rows.specs.Rooms.{rowAt}
 use Rattle.rows.proofs.PairLaws.{checked-row, row-by}
 use Rattle.rows.proofs.lookup.row.Statement.{statement}
 use Rattle.rows.proofs.lookup.row.Tie as tie

@@ -2,7 +2,7 @@
 use mathlib.Core.Path.{sym}
 use borrow.Author.Tests.{eq-eqb, ne-eqb}
 use Rattle.basics.proofs.Laws.{cond-true, cond-false}
-use Rattle.rows.specs.Meetings.{atRank}
+use Rattle.rows.specs.Inner.{atRank}
 use Rattle.rows.proofs.merge.at_rank.Statement.{statement}
 use Rattle.rows.proofs.merge.at_rank.Tie as tie
 

@@ -2,7 +2,7 @@
 use mathlib.Core.Path.{sym}
 use borrow.Author.Tests.{lt-ltb, le-ltb}
 use Rattle.basics.proofs.Laws.{cond-true, cond-false}
-use Rattle.rows.specs.Meetings.{bestOf}
+use Rattle.rows.specs.Inner.{bestOf}
 use Rattle.rows.proofs.merge.best_of.Statement.{statement}
 use Rattle.rows.proofs.merge.best_of.Tie as tie
 

@@ -2,7 +2,7 @@
 use mathlib.Core.Path.{sym}
 use borrow.Author.Tests.{lt-ltb, le-ltb}
 use Rattle.basics.proofs.Laws.{cond-true, cond-false}
-use Rattle.rows.specs.Meetings.{lesserBy}
+use Rattle.rows.specs.Inner.{lesserBy}
 use Rattle.rows.proofs.merge.lesser.Statement.{statement}
 use Rattle.rows.proofs.merge.lesser.Tie as tie
 

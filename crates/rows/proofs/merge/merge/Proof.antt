@@ -8,7 +8,7 @@ use native.Mathlib.Omega.{arith}
 use borrow.Author.Needs.{needs}
 use lib.ListN.{length, getD}
 use denote.Ref.{now}
-use Rattle.rows.specs.Meetings.{atRank, lesserBy, pastBy}
+use Rattle.rows.specs.Inner.{atRank, lesserBy, pastBy}
 use Rattle.rows.specs.declared.merge.Meeting.{Meeting}
 use Rattle.entry.proofs.Laws.{joins-small}
 use Rattle.rows.proofs.MeetingLaws.{Merged, past-most, past-some, merged-start, merged-on, merged-end}

@@ -2,7 +2,7 @@
 use mathlib.Core.Path.{sym}
 use borrow.Author.Tests.{le-leb, lt-leb}
 use Rattle.basics.proofs.Laws.{cond-true, cond-false}
-use Rattle.rows.specs.Meetings.{pastBy}
+use Rattle.rows.specs.Inner.{pastBy}
 use Rattle.rows.proofs.merge.step_past.Statement.{statement}
 use Rattle.rows.proofs.merge.step_past.Tie as tie
 

@@ -4,7 +4,7 @@ use borrow.Author.Needs.{needs}
 use denote.Ref.{now}
 use Rattle.basics.proofs.Laws.{read-off}
 use Rattle.refusal.specs.declared.Verdict.the-variants.{Fine}
-use Rattle.rows.specs.Pair.{pairTests, answered, told}
+use Rattle.rows.specs.Pair.{pairTests, answered, pairTold}
 use Rattle.rows.proofs.PairLaws.{pair-asked, row-in, answer-refused, answer-fine}
 use Rattle.rows.proofs.pair.pair.Statement.{statement}
 use Rattle.rows.proofs.pair.pair.Tie as tie
@@ -25,7 +25,7 @@ enum-known-asked c = search needs
 returns : tie.Need-returns
 returns c =
     let a = c .before .before .before .before .before .before .args in
-    read-off told (sym
+    read-off pairTold (sym
     (answer-refused (a .n) (a .w) (now (a .labels)) (now (a .counts)) (a .s) (a .t)
     (sym (c .before .before .before .check-pair .ensures) ∙ c .before .asked .given .1)))
 
@@ -48,7 +48,7 @@ returns-2 : tie.Need-returns-2
 unfolding answered
 returns-2 c =
     let a = c .before .before .before .before .before .before .before .before .args in
-    read-off told (sym
+    read-off pairTold (sym
     (answer-fine (a .n) (a .w) (now (a .labels)) (now (a .counts)) (a .s) (a .t) (fine (c .before .before .before))
     (sym (c .enum-told2 .given .1) ∙ c .before .before .meet .ensures)))
 
@@ -56,7 +56,7 @@ returns-3 : tie.Need-returns-3
 unfolding answered
 returns-3 c =
     let a = c .before .before .before .before .before .before .before .before .before .args in
-    read-off told (sym
+    read-off pairTold (sym
     (answer-fine (a .n) (a .w) (now (a .labels)) (now (a .counts)) (a .s) (a .t) (fine (c .before .before .before .before))
     (sym (c .before .best .given .1) ∙ c .before .before .before .meet .ensures)))
 

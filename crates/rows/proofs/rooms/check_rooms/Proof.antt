@@ -7,7 +7,7 @@ use Rattle.basics.proofs.Laws.{read-off}
 use Rattle.refusal.specs.Told.{verdictTold}
 use borrow.Author.Tests.{not-true, not-false}
 use denote.Ref.{now}
-use Rattle.refusal.specs.Sizes.{Sizes}
+use Rattle.refusal.specs.Inner.{Sizes}
 use Rattle.refusal.proofs.SizeLaws.{sizes-held}
 use Rattle.rows.proofs.RoomLaws.{size-refused, length-refused, rooms-fine}
 use Rattle.rows.proofs.rooms.check_rooms.Statement.{statement}

@@ -11,11 +11,11 @@ use Rattle.rows.proofs.sound.first_unsound.Statement.{statement}
 use Rattle.rows.proofs.sound.first_unsound.Tie as tie
 
 abbrev Inv-loop : tie.InvT-loop
-Inv-loop bound n w labels counts v₀ v =
-    (v ≤ n) × (first (unsound bound n w labels counts) v (n - v) ≡ first (unsound bound n w labels counts) 0 n)
+Inv-loop n w bound labels counts v₀ v =
+    (v ≤ n) × (first (unsound n w bound labels counts) v (n - v) ≡ first (unsound n w bound labels counts) 0 n)
 
 abbrev μ-loop : tie.MeasureT-loop
-μ-loop bound n w labels counts v₀ v = n - v
+μ-loop n w bound labels counts v₀ v = n - v
 
 loop-holds : tie.Need-loop-holds Inv-loop μ-loop
 loop-holds c = (omega arith, rw sub-zero refl)

@@ -22,19 +22,19 @@ use Rattle.rows.proofs.sound.sound_part.Statement.{statement}
 use Rattle.rows.proofs.sound.sound_part.Tie as tie
 
 abbrev Inv-loop : tie.InvT-loop
-Inv-loop bound n row floor₀ at₀ floor at =
+Inv-loop n bound row floor₀ at₀ floor at =
     (at ≤ length row)
-    × ((i : ℕ) → i < at → faultyEntry floor n row i ≡ false)
+    × ((i : ℕ) → i < at → faultyEntry n floor row i ≡ false)
     × (0 < floor → 0 < at)
     × (0 < at → floor ≡ rankOf (getD row (at - 1) 0) + 1)
 
 abbrev μ-loop : tie.MeasureT-loop
-μ-loop bound n row floor₀ at₀ floor at = length row - at
+μ-loop n bound row floor₀ at₀ floor at = length row - at
 
 -- one faulty entry and the row is not sound
-refused : (bound n : ℕ) (row : List ℕ) (i : ℕ) → i < length row → faultyEntry bound n row i ≡ true
-    → false ≡ not (some (faultyEntry bound n row) 0 (length row))
-refused bound n row i h e = sym (not-of-true (some-one (faultyEntry bound n row) 0 (length row) i (omega arith) (omega arith) e))
+refused : (n bound : ℕ) (row : List ℕ) (i : ℕ) → i < length row → faultyEntry n bound row i ≡ true
+    → false ≡ not (some (faultyEntry n bound row) 0 (length row))
+refused n bound row i h e = sym (not-of-true (some-one (faultyEntry n bound row) 0 (length row) i (omega arith) (omega arith) e))
 
 loop-holds : tie.Need-loop-holds Inv-loop μ-loop
 loop-holds c = (omega arith, (λ i h. absurd (omega arith)), (λ h. absurd (omega arith)), (λ h. absurd (omega arith)))
@@ -57,16 +57,16 @@ returns c =
     let l = c .before .before .before .before .before .loop in
     let rank = c .before .before .rank-of .ensures in
     let h : 0 < l .at = l .inv .2 (omega arith) in
-    refused (a .bound) (a .n) (now (a .row)) (l .at) (omega arith)
-    (faulty-rise (a .bound) (a .n) (now (a .row)) (l .at) h (omega (arith, l .inv .3 h, rank)))
+    refused (a .n) (a .bound) (now (a .row)) (l .at) (omega arith)
+    (faulty-rise (a .n) (a .bound) (now (a .row)) (l .at) h (omega (arith, l .inv .3 h, rank)))
 
 returns-2 : tie.Need-returns-2 Inv-loop μ-loop
 returns-2 c =
     let a = c .before .before .before .before .before .before .before .before .args in
     let l = c .before .before .before .before .before .before .loop in
     let joins = c .before .before .joins-of .ensures in
-    refused (a .bound) (a .n) (now (a .row)) (l .at) (omega arith)
-    (faulty-joins (a .bound) (a .n) (now (a .row)) (l .at) (omega (arith, joins)))
+    refused (a .n) (a .bound) (now (a .row)) (l .at) (omega arith)
+    (faulty-joins (a .n) (a .bound) (now (a .row)) (l .at) (omega (arith, joins)))
 
 add-floor : tie.Need-add-floor Inv-loop μ-loop
 add-floor c =
@@ -89,7 +89,7 @@ loop-again c =
     let joins = c .before .before .joins-of .ensures in (
       omega arith,
       below-more _ _ (λ i h. faultless-higher (a .n) (now (a .row)) i (omega arith) (l .inv .1 i h))
-          (faultless _ (a .n) (now (a .row)) (l .at) (omega (arith, rank)) (omega (arith, joins))
+          (faultless (a .n) _ (now (a .row)) (l .at) (omega (arith, rank)) (omega (arith, joins))
           (λ h. omega (arith, rank, l .inv .3 h))),
       (λ h. omega arith),
       (λ h. rw add-sub-cancel (ap (λ (k : ℕ). k + 1) rank)),
@@ -103,13 +103,13 @@ returns-3 c =
     (λ h.
     let k : 0 < l .at = l .inv .2 (omega arith) in
     lt-leb (l .floor) (a .bound) h
-    ∙ refused (a .bound) (a .n) (now (a .row)) (l .at - 1) (omega arith)
-    (faulty-rank (a .bound) (a .n) (now (a .row)) (l .at - 1) (omega (arith, l .inv .3 k))))
+    ∙ refused (a .n) (a .bound) (now (a .row)) (l .at - 1) (omega arith)
+    (faulty-rank (a .n) (a .bound) (now (a .row)) (l .at - 1) (omega (arith, l .inv .3 k))))
     (λ h.
     le-leb (l .floor) (a .bound) h
     ∙ sym
     (not-of-false
-    (some-none (faultyEntry (a .bound) (a .n) (now (a .row))) 0 (length (now (a .row)))
+    (some-none (faultyEntry (a .n) (a .bound) (now (a .row))) 0 (length (now (a .row)))
     (λ i p q. faultless-higher (a .n) (now (a .row)) i h (l .inv .1 i (omega arith))))))
 
 pub sound-part-spec : {M : Type 1} → statement M

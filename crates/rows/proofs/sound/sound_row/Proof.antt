@@ -39,7 +39,7 @@ returns-2 c =
     let s = c .before .before .before .before .before .before in
     let a = s .args in
     c .sound-part .ensures
-    ∙ ap (λ (row : List ℕ). not (some (faultyEntry (a .bound) (a .n) row) 0 (length row))) (c .before .cut .ensures .0)
+    ∙ ap (λ (row : List ℕ). not (some (faultyEntry (a .n) (a .bound) row) 0 (length row))) (c .before .cut .ensures .0)
     ∙ sym (sound-by-entries (s .pre .0) (a .v) (s .pre .1) (c .before .before .if1 .left) (a .bound))
 
 pub sound-row-spec : {M : Type 1} → statement M

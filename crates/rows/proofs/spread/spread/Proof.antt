@@ -11,7 +11,8 @@ use borrow.Author.Tests.{not-false}
 use denote.Ref.{now}
 use Rattle.basics.specs.Places.{first}
 use Rattle.basics.proofs.Laws.{read-off, first-here, first-step, first-over, not-of-true}
-use Rattle.rows.specs.Rooms.{Rooms, unsound}
+use Rattle.rows.specs.Inner.{Rooms}
+use Rattle.rows.specs.Rooms.{unsound}
 use Rattle.rows.specs.Spread.{farthest, spreadTold}
 use Rattle.rows.proofs.Laws.{row-ends}
 use Rattle.rows.proofs.RoomLaws.{fine-rooms, rooms-refused, rows-fine, rows-refused}
@@ -23,7 +24,7 @@ abbrev Inv-loop : tie.InvT-loop
 Inv-loop n w labels counts found₀ v₀ found v =
     Rooms n w labels counts
     × (v ≤ n)
-    × (first (unsound n n w labels counts) v (n - v) ≡ first (unsound n n w labels counts) 0 n)
+    × (first (unsound n w n labels counts) v (n - v) ≡ first (unsound n w n labels counts) 0 n)
     × (found ≡ farthest w labels counts v)
 
 abbrev μ-loop : tie.MeasureT-loop
@@ -39,7 +40,7 @@ returns : tie.Need-returns Inv-loop μ-loop
 returns c =
     let a = c .before .before .before .before .before .before .args in
     read-off spreadTold (spread-refused (a .n) (a .w) (now (a .labels)) (now (a .counts))
-    (rooms-refused (a .n) (a .n) (a .w) (now (a .labels)) (now (a .counts))
+    (rooms-refused (a .n) (a .w) (a .n) (now (a .labels)) (now (a .counts))
     (sym (c .before .before .before .check-rooms .ensures .0) ∙ c .before .rooms .given .1)))
 
 enum-told : tie.Need-enum-told Inv-loop μ-loop

@@ -2,7 +2,7 @@
 use Prim.Native.Nat.{ℕ}
 use mathlib.Core.Path.{ap, _∙_}
 use mathlib.Core.List.{List}
-use Rattle.walk.specs.Explore.{within, drops}
+use Rattle.walk.specs.Inner.{rowWithin, drops}
 use Rattle.walk.proofs.DropRow.{row-lies, row-noted}
 use Rattle.walk.proofs.explore.dropped.Statement.{statement}
 use Rattle.walk.proofs.explore.dropped.Tie as tie
@@ -17,7 +17,7 @@ returns : tie.Need-returns
 unfolding drops
 returns c =
     let a = c .before .before .before .before .before .args in
-    c .near .ensures ∙ ap (λ (row : List ℕ). within (a .noted .now) row (a .level)) (c .before .row-of .ensures)
+    c .near .ensures ∙ ap (λ (row : List ℕ). rowWithin (a .noted .now) row (a .level)) (c .before .row-of .ensures)
 
 pub dropped-spec : {M : Type 1} → statement M
 dropped-spec = tie.close (tie.spec row-of-requires near-requires returns)

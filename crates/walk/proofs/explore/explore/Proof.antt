@@ -1,7 +1,7 @@
 -- The notes are made of the hub's row, the walk goes by them, and forgetting the row brings the table back.
 use borrow.Author.Needs.{needs}
 use Rattle.walk.proofs.BfsEnd.{bfs-low}
-use Rattle.walk.proofs.BfsWalk.{hub-row, note-in, spread-in, forget-in, notes-back, room-is}
+use Rattle.walk.proofs.BfsWalk.{hub-row, note-in, reach-in, forget-in, notes-back, room-is}
 use Rattle.walk.proofs.DropRow.{row-lies}
 use Rattle.walk.proofs.explore.explore.Statement.{statement}
 use Rattle.walk.proofs.explore.explore.Tie as tie
@@ -12,11 +12,11 @@ row-of-requires c κs = row-lies (hub-row (c .before .before .before .before .be
 note-requires : tie.Need-note-requires
 note-requires c κs = note-in (c .before .before .before .before .before .before .before .before .before .pre) (c .before .row-of .ensures)
 
-spread-requires : tie.Need-spread-requires
-spread-requires c κs =
+reach-requires : tie.Need-reach-requires
+reach-requires c κs =
     let m = c .before .before .before .before .before in
     let r = m .before .before in
-    spread-in (r .before .before .before .before .before .before .before .before .pre) (r .row-of .ensures) (m .note .ensures)
+    reach-in (r .before .before .before .before .before .before .before .before .pre) (r .row-of .ensures) (m .note .ensures)
 
 note-requires-2 : tie.Need-note-requires-2
 note-requires-2 c κs =
@@ -41,7 +41,7 @@ returns c =
     let p = r .before .before .before .before .before .before .before .before .pre in
     let own = r .row-of .ensures in (
       notes-back p own (m .note .ensures) (c .before .before .note2 .ensures),
-      (room-is p own (m .note .ensures) (k .spread .ensures), (k .spread .ensures .line, bfs-low (k .spread .ensures))),
+      (room-is p own (m .note .ensures) (k .reach .ensures), (k .reach .ensures .line, bfs-low (k .reach .ensures))),
     )
 
 pub explore-spec : {M : Type 1} → statement M
@@ -50,7 +50,7 @@ explore-spec =
     (tie.spec
     row-of-requires
     note-requires
-    spread-requires
+    reach-requires
     note-requires-2
     same-length
     same-length-2

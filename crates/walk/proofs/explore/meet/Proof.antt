@@ -5,7 +5,7 @@ use mathlib.Core.Path.{_≡_, refl, sym, _∙_}
 use native.Mathlib.Omega.{arith}
 use lib.ListN.{length, getD}
 use Rattle.theory.proofs.DistWeight.{start-upto}
-use Rattle.walk.specs.Explore.{Grown}
+use Rattle.walk.specs.Inner.{Grown}
 use Rattle.walk.proofs.BfsQueue.{room}
 use Rattle.walk.proofs.BfsGrown.{grown-none, grown-old, grown-new}
 use Rattle.walk.proofs.explore.meet.Statement.{statement}

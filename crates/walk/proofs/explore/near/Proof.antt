@@ -10,19 +10,19 @@ use lib.ListN.{length, getD}
 use Rattle.basics.specs.Places.{some}
 use Rattle.basics.proofs.Laws.{some-here, some-step, some-over}
 use Rattle.entry.specs.Entry.{joinsOf}
-use Rattle.walk.specs.Explore.{entryWithin, within}
+use Rattle.walk.specs.Inner.{entryWithin, rowWithin}
 use Rattle.walk.proofs.explore.near.Statement.{statement}
 use Rattle.walk.proofs.explore.near.Tie as tie
 
 abbrev Inv-loop : tie.InvT-loop
 Inv-loop row noted level i₀ i =
-    (i ≤ length row) × (some (entryWithin noted row level) i (length row - i) ≡ within noted row level)
+    (i ≤ length row) × (some (entryWithin noted row level) i (length row - i) ≡ rowWithin noted row level)
 
 abbrev μ-loop : tie.MeasureT-loop
 μ-loop row noted level i₀ i = length row - i
 
 loop-holds : tie.Need-loop-holds Inv-loop μ-loop
-unfolding within
+unfolding rowWithin
 loop-holds c = (omega arith, rw sub-zero refl)
 
 mul-e : tie.Need-mul-e Inv-loop μ-loop

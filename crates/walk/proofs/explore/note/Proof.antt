@@ -5,7 +5,7 @@ use mathlib.Core.Path.{_≡_, refl, sym, _∙_}
 use native.Mathlib.Omega.{arith}
 use borrow.Author.Needs.{needs}
 use lib.ListN.{length, drop, length-set, drop-of-length-le}
-use Rattle.walk.specs.Explore.{notedBy}
+use Rattle.walk.specs.Inner.{notedBy}
 use Rattle.walk.proofs.DropNotes.{note-on}
 use Rattle.walk.proofs.explore.note.Statement.{statement}
 use Rattle.walk.proofs.explore.note.Tie as tie

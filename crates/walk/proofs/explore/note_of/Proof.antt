@@ -4,7 +4,7 @@ use native.Mathlib.Omega.{arith}
 use borrow.Author.Needs.{needs}
 use Rattle.basics.proofs.Laws.{cond-true, cond-false}
 use Rattle.entry.specs.Entry.{joinsOf}
-use Rattle.walk.specs.Explore.{noteOf}
+use Rattle.walk.specs.Inner.{noteOf}
 use Rattle.walk.proofs.explore.note_of.Statement.{statement}
 use Rattle.walk.proofs.explore.note_of.Tie as tie
 

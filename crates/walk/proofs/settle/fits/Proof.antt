@@ -6,7 +6,7 @@ use mathlib.Core.Bool.{false}
 use native.Mathlib.Omega.{arith}
 use borrow.Author.Count.{below-more}
 use lib.ListN.{length, getD}
-use Rattle.walk.specs.Settle.{lacksRoom}
+use Rattle.walk.specs.Inner.{lacksRoom}
 use Rattle.walk.proofs.RoomMarks.{fits-done, fits-not}
 use Rattle.walk.proofs.settle.fits.Statement.{statement}
 use Rattle.walk.proofs.settle.fits.Tie as tie

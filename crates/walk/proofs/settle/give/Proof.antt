@@ -6,7 +6,7 @@ use native.Mathlib.Omega.{arith}
 use borrow.Author.Needs.{needs}
 use lib.ListN.{length, getD, set}
 use Rattle.basics.proofs.Laws.{cond-true, cond-false}
-use Rattle.walk.specs.Settle.{isKept}
+use Rattle.walk.specs.Inner.{isKept}
 use Rattle.rows.proofs.Laws.{row-place}
 use Rattle.walk.proofs.RoomMarks.{kept-mark, dropped-mark}
 use Rattle.walk.proofs.settle.give.Statement.{statement}

@@ -4,7 +4,7 @@ use mathlib.Core.Path.{_≡_, sym, ap, _∙_}
 use mathlib.Core.Bool.{Bool, false, _&&_, and-true, and-false}
 use borrow.Author.Tests.{le-leb, lt-leb, lt-ltb}
 use lib.Dec.{ltb}
-use Rattle.walk.specs.Settle.{lacksRoom, isKept}
+use Rattle.walk.specs.Inner.{lacksRoom, isKept}
 use Rattle.walk.proofs.settle.lacks_room.Statement.{statement}
 use Rattle.walk.proofs.settle.lacks_room.Tie as tie
 

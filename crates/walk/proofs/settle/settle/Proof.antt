@@ -2,7 +2,7 @@
 use mathlib.Core.Path.{sym, _∙_}
 use native.Mathlib.Omega.{arith}
 use borrow.Author.Needs.{needs}
-use Rattle.walk.specs.Settle.{ifMade}
+use Rattle.walk.specs.Walk.{ifMade}
 use Rattle.rows.proofs.LaidLaws.{laid-long}
 use Rattle.walk.proofs.RoomMarks.{settle-made, settle-full}
 use Rattle.walk.proofs.settle.settle.Statement.{statement}

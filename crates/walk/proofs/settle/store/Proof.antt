@@ -6,7 +6,7 @@ use mathlib.Core.List.{List}
 use native.Mathlib.Omega.{arith}
 use lib.ListN.{length, getD}
 use Rattle.theory.specs.Rows.{Row}
-use Rattle.rows.specs.Laid.{Laid}
+use Rattle.rows.specs.Inner.{Laid}
 use Rattle.rows.proofs.LaidLaws.{laid-long, count-at}
 use Rattle.walk.proofs.RoomMarks.{upto, still, room-left, laid-begin, laid-step, laid-end}
 use Rattle.walk.proofs.settle.store.Statement.{statement}

@@ -3,8 +3,8 @@ use Prim.Native.Nat.{_-_}
 use native.Mathlib.Omega.{arith}
 use lib.ListN.{length}
 use Rattle.walk.proofs.RoomClear.{Cleared, clear-none, clear-more, clear-all}
-use Rattle.build.proofs.rooms.clear_labels.Statement.{statement}
-use Rattle.build.proofs.rooms.clear_labels.Tie as tie
+use Rattle.build.proofs.clear.clear_labels.Statement.{statement}
+use Rattle.build.proofs.clear.clear_labels.Tie as tie
 
 abbrev Inv-loop : tie.InvT-loop
 Inv-loop labels₀ at₀ labels at = Cleared labels₀ labels at

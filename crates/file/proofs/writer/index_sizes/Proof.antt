@@ -3,8 +3,8 @@ use mathlib.Core.Path.{sym, _∙_}
 use borrow.Author.Needs.{needs}
 use borrow.Author.Tests.{not-true, not-false}
 use Rattle.file.specs.Writer.{indexSizes}
-use Rattle.file.proofs.writer.sizes_fit.Statement.{statement}
-use Rattle.file.proofs.writer.sizes_fit.Tie as tie
+use Rattle.file.proofs.writer.index_sizes.Statement.{statement}
+use Rattle.file.proofs.writer.index_sizes.Tie as tie
 
 sizes-fit-requires : tie.Need-sizes-fit-requires
 sizes-fit-requires c κs = search needs
@@ -17,5 +17,5 @@ returns-2 : tie.Need-returns-2
 unfolding indexSizes
 returns-2 c = rw (sym (c .before .sizes-fit .ensures) ∙ not-false _ (c .if1 .left))
 
-pub sizes-fit-spec : {M : Type 1} → statement M
-sizes-fit-spec = tie.close (tie.spec sizes-fit-requires returns returns-2)
+pub index-sizes-spec : {M : Type 1} → statement M
+index-sizes-spec = tie.close (tie.spec sizes-fit-requires returns returns-2)

@@ -1,10 +1,32 @@
--- What the field writer does to the output room: one relation for every writing function.
+-- What taking a field out of bytes asks, and what the field writer does to the output room: one relation for every writing
+-- function.
 use Prim.Native.Nat.{ℕ, _+_, _*_, _^_, _≤_, _<_}
 use mathlib.Core.Path.{_≡_}
-use mathlib.Core.List.{List, []}
+use mathlib.Core.List.{List, [], _∷_}
 use lib.ListN.{length, take, drop}
-use Rattle.fields.specs.Bits.{Field, val, bitLen, num, byteLen, padLen, Legal}
+use Rattle.fields.specs.Bits.{Field, val, fieldAt, bitLen, num, byteLen, padLen}
 use Rattle.fields.specs.declared.put.Pen.{Pen}
+
+-- ---- fields
+
+-- every value fits its width
+unfoldable pub Legal : List Field → Type 0
+Legal [] = Unit {0}
+Legal (f ∷ fs) = (f .value < 2 ^ f .width) × Legal fs
+
+-- from bit p on the byte string holds these fields
+unfoldable pub Reads : List ℕ → ℕ → List Field → Type 0
+Reads s p [] = Unit {0}
+Reads s p (f ∷ fs) = (fieldAt s p (f .width) ≡ f .value) × Reads s (p + f .width) fs
+
+-- ---- a field taken out
+
+-- a field of a file: at most 16 bits, and far from the bits that a number cannot count
+pub record Near (p width : ℕ) : Type 0 where
+  pub narrow : width ≤ 16
+  pub near : p ≤ 2 ^ 32
+
+-- ---- fields put
 
 -- the bits written so far, as a count and as a number
 abbrev pub penBits : Pen → ℕ

@@ -3,8 +3,8 @@ use Prim.Native.Nat.{_-_}
 use native.Mathlib.Omega.{arith}
 use lib.ListN.{length}
 use Rattle.walk.proofs.RoomClear.{Cleared, clear-none, clear-more, clear-all}
-use Rattle.build.proofs.rooms.clear.Statement.{statement}
-use Rattle.build.proofs.rooms.clear.Tie as tie
+use Rattle.build.proofs.clear.clear.Statement.{statement}
+use Rattle.build.proofs.clear.clear.Tie as tie
 
 abbrev Inv-loop : tie.InvT-loop
 Inv-loop room₀ at₀ room at = Cleared room₀ room at

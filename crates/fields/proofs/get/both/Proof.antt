@@ -1,4 +1,4 @@
--- `pair`: where four bytes are there they give the 24 bits, else the two fields do.
+-- `both`: where four bytes are there they give the 24 bits, else the two fields do.
 use Prim.Native.Nat.{ℕ, _+_, _*_, _≤_, _<_}
 use mathlib.Core.Path.{_≡_, refl, sym, ap₂, _∙_}
 use mathlib.Core.List.{List}
@@ -8,8 +8,8 @@ use lib.ListN.{length}
 use lib.Pow.{split}
 use Rattle.fields.specs.Bits.{fieldAt, byteLen}
 use Rattle.fields.proofs.Bits.{field-lt, pair-parts}
-use Rattle.fields.proofs.get.pair.Statement.{statement}
-use Rattle.fields.proofs.get.pair.Tie as tie
+use Rattle.fields.proofs.get.both.Statement.{statement}
+use Rattle.fields.proofs.get.both.Tie as tie
 
 -- the two fields as one number
 joined : (s : List ℕ) (p : ℕ) → p + 24 ≤ 8 * length s → fieldAt s p 12 * 4096 + fieldAt s (p + 12) 12 ≡ fieldAt s p 24
@@ -58,8 +58,8 @@ returns-2 c =
     ap₂ (λ (x y : ℕ). x * 4096 + y) (c .before .get .ensures) (c .get2 .ensures)
     ∙ joined _ (c .before .before .before .before .args .p) (omega (arith, c .before .before .before .before .pre .1))
 
-pub pair-spec : {M : Type 1} → statement M
-pair-spec =
+pub both-spec : {M : Type 1} → statement M
+both-spec =
     tie.close
     (tie.spec
     add-end

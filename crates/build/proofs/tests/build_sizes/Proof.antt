@@ -3,8 +3,8 @@ use mathlib.Core.Path.{refl, sym, _∙_}
 use borrow.Author.Needs.{needs}
 use borrow.Author.Tests.{le-leb, lt-leb, not-true, not-false}
 use Rattle.build.specs.Build.{buildSizes}
-use Rattle.build.proofs.tests.sizes_fit.Statement.{statement}
-use Rattle.build.proofs.tests.sizes_fit.Tie as tie
+use Rattle.build.proofs.tests.build_sizes.Statement.{statement}
+use Rattle.build.proofs.tests.build_sizes.Tie as tie
 
 sizes-fit-requires : tie.Need-sizes-fit-requires
 sizes-fit-requires c κs = search needs
@@ -33,5 +33,5 @@ returns-3 c =
     let fit = sym (d .before .before .sizes-fit .ensures) ∙ not-false _ (d .before .if1 .left) in
     rw (fit, le-leb (a .k) (a .n) (d .if2 .left)) (c .places-fit .ensures)
 
-pub sizes-fit-spec : {M : Type 1} → statement M
-sizes-fit-spec = tie.close (tie.spec sizes-fit-requires returns returns-2 places-fit-requires returns-3)
+pub build-sizes-spec : {M : Type 1} → statement M
+build-sizes-spec = tie.close (tie.spec sizes-fit-requires returns returns-2 places-fit-requires returns-3)

@@ -9,8 +9,8 @@ use borrow.Author.Tests.{eq-eqb}
 use Rattle.basics.proofs.Laws.{bcase}
 use Rattle.build.specs.Build.{buildRooms}
 use Rattle.build.proofs.BuildTests.{Lengths, rooms-hold}
-use Rattle.build.proofs.tests.rooms_fit.Statement.{statement}
-use Rattle.build.proofs.tests.rooms_fit.Tie as tie
+use Rattle.build.proofs.tests.build_rooms.Statement.{statement}
+use Rattle.build.proofs.tests.build_rooms.Tie as tie
 
 add-starts-long : tie.Need-add-starts-long
 add-starts-long c = search needs
@@ -53,8 +53,8 @@ returns-6 c =
       eq-eqb (a .met) (a .n) (c .if5 .left),
     ) refl
 
-pub rooms-fit-spec : {M : Type 1} → statement M
-rooms-fit-spec =
+pub build-rooms-spec : {M : Type 1} → statement M
+build-rooms-spec =
     tie.close
     (tie.spec
     add-starts-long

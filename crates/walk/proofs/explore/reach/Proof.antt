@@ -5,10 +5,10 @@ use mathlib.Core.Path.{_≡_, sym, ap, _∙_}
 use native.Mathlib.Omega.{arith}
 use borrow.Author.Needs.{needs}
 use lib.ListN.{length, length-replicate}
-use Rattle.walk.specs.Explore.{Bfs, drops}
+use Rattle.walk.specs.Inner.{Bfs, drops}
 use Rattle.walk.proofs.BfsStart.{bfs-start}
-use Rattle.walk.proofs.explore.spread.Statement.{statement}
-use Rattle.walk.proofs.explore.spread.Tie as tie
+use Rattle.walk.proofs.explore.reach.Statement.{statement}
+use Rattle.walk.proofs.explore.reach.Tie as tie
 
 abbrev Inv-loop : tie.InvT-loop
 Inv-loop w starts places labels counts noted hub met₀ queue₀ head₀ tail₀ met queue head tail =
@@ -83,8 +83,8 @@ returns c =
     let ended : l .head ≡ l .tail = omega (arith, l .inv .ahead, c .loop-test .left) in
     rw ended at (l .inv)
 
-pub spread-spec : {M : Type 1} → statement M
-spread-spec =
+pub reach-spec : {M : Type 1} → statement M
+reach-spec =
     tie.close
     (tie.spec
     Inv-loop
