@@ -8,6 +8,7 @@
 
 #define DECLARE(p) \
     uint32_t p##_order_by_degree(size_t n, const uint32_t *s, size_t sl, const uint32_t *q, size_t ql, uint32_t *o, size_t ol); \
+    uint32_t p##_order_scattered(size_t n, const uint32_t *s, size_t sl, const uint32_t *q, size_t ql, uint32_t *o, size_t ol); \
     uint32_t p##_build(size_t n, size_t w, size_t k, const uint32_t *s, size_t sl, const uint32_t *q, size_t ql, \
                        const uint32_t *o, size_t ol, uint32_t *labels, size_t ll, uint32_t *counts, size_t cl, \
                        uint32_t *met, size_t ml, uint32_t *queue, size_t ul, uint64_t *entries); \

@@ -1,6 +1,7 @@
 /* Times the proved library through its C interface beside the same method in plain C and plain Rust, in one run, interleaved, and
  * prints a table of ratios: library time over baseline time, medians of paired runs. Below 1 the library is the faster one.
- * Every answer and every room that a call fills, but the two work rooms, is compared, so a wrong baseline is noticed. */
+ * Every answer and every room that a call fills, but the two work rooms, is compared, so a wrong baseline is noticed. A second table has
+ * both orders on survey decks. */
 #include "../crates/capi/seam.h"
 #include "baseline.h"
 #include <math.h>
@@ -126,6 +127,45 @@ static void scale_free(void) {
     lay();
 }
 
+/* A survey deck: strips side by side, each of so many frames. A frame overlaps so many ahead of it in its strip and the one beside it in
+ * the next strip, with corners also that one's two neighbours; of ten overlaps so many are missing. */
+struct deck {
+    const char *name;
+    uint32_t strips, frames, ahead, corners, missing;
+};
+
+/* The grid of the blocks, and three decks; DECK is a block too. */
+static const struct deck decks[] = {
+    {"64 x 64 grid", 64, 64, 1, 0, 0},
+    {"16 strips of 256", 16, 256, 1, 0, 0},
+    {"16 strips of 256, two ahead, corners, 1 in 10 missing", 16, 256, 2, 1, 1},
+    {"64 x 64 grid, corners, 4 in 10 missing", 64, 64, 1, 1, 4},
+};
+#define DECK (&decks[2])
+
+static void overlap(const struct deck *d, uint32_t a, uint32_t b) {
+    if (dice() % 10 >= d->missing) join(a, b);
+}
+
+static void strip(const struct deck *d, uint32_t s) {
+    for (uint32_t c = 0; c < d->frames; c++) {
+        uint32_t v = s * d->frames + c, beside = v + d->frames;
+        for (uint32_t i = 1; i <= d->ahead && c + i < d->frames; i++) overlap(d, v, v + i);
+        if (s + 1 == d->strips) continue;
+        overlap(d, v, beside);
+        if (d->corners && c > 0) overlap(d, v, beside - 1);
+        if (d->corners && c + 1 < d->frames) overlap(d, v, beside + 1);
+    }
+}
+
+/* The dice start anew, so that a deck is the same wherever it is laid. */
+static void survey(const struct deck *d) {
+    seed = 0x2545F4914F6CDD1DULL;
+    n_pairs = 0;
+    for (uint32_t s = 0; s < d->strips; s++) strip(d, s);
+    lay();
+}
+
 static void shuffled(void) {
     for (uint32_t v = 0; v < N; v++) order[v] = v;
     for (size_t i = N - 1; i > 0; i--) {
@@ -135,6 +175,20 @@ static void shuffled(void) {
         order[j] = t;
     }
 }
+
+typedef uint32_t ordering(size_t n, const uint32_t *starts, size_t starts_len, const uint32_t *places, size_t places_len,
+                          uint32_t *order, size_t order_len, uint64_t *place);
+typedef uint32_t plain_ordering(size_t n, const uint32_t *s, size_t sl, const uint32_t *q, size_t ql, uint32_t *o, size_t ol);
+
+/* One of the two orders: the library's, in plain C and in plain Rust. */
+struct kind {
+    const char *name;
+    ordering *seam;
+    plain_ordering *c, *r;
+};
+
+static const struct kind by_degree = {"order by degree", seam_order_by_degree, c_order_by_degree, r_order_by_degree};
+static const struct kind scattered = {"order scattered", seam_order_scattered, c_order_scattered, r_order_scattered};
 
 /* A breadth-first search that stops at t. */
 static long search(uint32_t s, uint32_t t) {
@@ -175,7 +229,7 @@ static const char *span(double seconds) {
 
 static double seam_t[ROUNDS], c_t[ROUNDS], r_t[ROUNDS];
 
-#define ROW_OF(name, repeat, lib, cc, rr)                                                        \
+#define TIME_OF(repeat, lib, cc, rr)                                                             \
     do {                                                                                         \
         for (int round_ = 0; round_ < ROUNDS; round_++) {                                        \
             double t0 = now();                                                                   \
@@ -189,30 +243,66 @@ static double seam_t[ROUNDS], c_t[ROUNDS], r_t[ROUNDS];
             c_t[round_] = (t1 - t0) / (t2 - t1);                                                 \
             r_t[round_] = (t1 - t0) / (t3 - t2);                                                 \
         }                                                                                        \
-        printf("| %s | %s | %s | %.2f | %.2f |\n", block, name, span(median(seam_t, ROUNDS)),    \
-               median(c_t, ROUNDS), median(r_t, ROUNDS));                                        \
     } while (0)
+
+static void row_of(const char *block, const char *name) {
+    printf("| %s | %s | %s | %.2f | %.2f |\n", block, name, span(median(seam_t, ROUNDS)), median(c_t, ROUNDS), median(r_t, ROUNDS));
+}
+
+#define ROW_OF(name, repeat, lib, cc, rr)  \
+    do {                                   \
+        TIME_OF(repeat, lib, cc, rr);      \
+        row_of(block, name);               \
+    } while (0)
+
+static void run_order(const char *block, const struct kind *by) {
+    uint64_t place;
+    uint32_t bad[3];
+    ROW_OF(by->name, 20, bad[0] = by->seam(N, starts, N + 1, places, n_places, order_b[0], N, &place),
+           bad[1] = by->c(N, starts, N + 1, places, n_places, order_b[1], N),
+           bad[2] = by->r(N, starts, N + 1, places, n_places, order_b[2], N));
+    must(!bad[0] && !bad[1] && !bad[2] && same(order_b[0], order_b[1], order_b[2], sizeof order_b[0]), "orders differ");
+}
+
+/* Fills the order room, and holds it against the baselines. */
+static void in_order(const struct kind *by) {
+    uint64_t place;
+    must(!by->seam(N, starts, N + 1, places, n_places, order, N, &place), "order");
+    must(!by->c(N, starts, N + 1, places, n_places, order_b[1], N), "order in C");
+    must(!by->r(N, starts, N + 1, places, n_places, order_b[2], N), "order in Rust");
+    must(same(order, order_b[1], order_b[2], sizeof order), "orders differ");
+}
+
+static uint32_t seam_built(const uint32_t *o, uint64_t *entries, uint64_t *place) {
+    return seam_build(N, W, N, starts, N + 1, places, n_places, o, N, labels[0], N * W, counts[0], N, met, N, queue, N, entries, place);
+}
+
+/* The build in the order room's order, timed: its number and place. */
+static uint32_t time_build(uint64_t *place) {
+    uint64_t e[3];
+    uint32_t bad[3];
+    TIME_OF(1, bad[0] = seam_built(order, &e[0], place),
+            bad[1] = c_build(N, W, N, starts, N + 1, places, n_places, order, N, labels[1], N * W, counts[1], N, met, N, queue, N, &e[1]),
+            bad[2] = r_build(N, W, N, starts, N + 1, places, n_places, order, N, labels[2], N * W, counts[2], N, met, N, queue, N, &e[2]));
+    must(bad[0] == bad[1] && bad[1] == bad[2] && e[0] == e[1] && e[1] == e[2], "builds differ");
+    must(same(labels[0], labels[1], labels[2], sizeof labels[0]), "rows differ");
+    must(same(counts[0], counts[1], counts[2], sizeof counts[0]), "counts differ");
+    return bad[0];
+}
 
 static double search_ratio;
 static const char *search_block;
 
 static void run(const char *block) {
-    uint64_t place, e[3], n[3], k[3], bytes[3], sp[3];
+    uint64_t place, n[3], k[3], bytes[3], sp[3];
     uint32_t bad[3], found[3];
     uint64_t joins[3], sum[3];
-    ROW_OF("order by degree", 20, bad[0] = seam_order_by_degree(N, starts, N + 1, places, n_places, order_b[0], N, &place),
-           bad[1] = c_order_by_degree(N, starts, N + 1, places, n_places, order_b[1], N),
-           bad[2] = r_order_by_degree(N, starts, N + 1, places, n_places, order_b[2], N));
-    must(!bad[0] && !bad[1] && !bad[2] && same(order_b[0], order_b[1], order_b[2], sizeof order_b[0]), "orders differ");
-    ROW_OF("build", 1,
-           bad[0] = seam_build(N, W, N, starts, N + 1, places, n_places, order, N, labels[0], N * W, counts[0], N, met, N, queue, N,
-                               &e[0], &place),
-           bad[1] = c_build(N, W, N, starts, N + 1, places, n_places, order, N, labels[1], N * W, counts[1], N, met, N, queue, N, &e[1]),
-           bad[2] = r_build(N, W, N, starts, N + 1, places, n_places, order, N, labels[2], N * W, counts[2], N, met, N, queue, N, &e[2]));
-    if (bad[0]) fprintf(stderr, "%s: refused %u at %lu\n", block, bad[0], (unsigned long)place);
-    must(bad[0] == 0 && bad[1] == 0 && bad[2] == 0 && e[0] == e[1] && e[1] == e[2], "build");
-    must(same(labels[0], labels[1], labels[2], sizeof labels[0]), "rows differ");
-    must(same(counts[0], counts[1], counts[2], sizeof counts[0]), "counts differ");
+    run_order(block, &by_degree);
+    run_order(block, &scattered);
+    uint32_t refused = time_build(&place);
+    if (refused) fprintf(stderr, "%s: refused %u at %lu\n", block, refused, (unsigned long)place);
+    must(!refused, "build");
+    row_of(block, "build");
     for (int i = 0; i < 20000; i++) {
         ask_s[i] = dice() % N;
         ask_t[i] = dice() % N;
@@ -271,18 +361,80 @@ static void run(const char *block) {
     }
 }
 
-int main(void) {
+/* ---- both orders on a deck */
+
+/* Of the rows just built, or of the rank at which one was full. */
+static void deck_row(const char *deck, const char *name, uint32_t refused, uint64_t place) {
+    uint64_t entries = 0;
+    uint32_t longest = 0;
+    must(refused == SEAM_OK || refused == SEAM_ROOM, "build");
+    if (refused) {
+        printf("| %s | %s | ROOM at rank %lu | | | | |\n", deck, name, (unsigned long)place);
+        return;
+    }
+    for (size_t v = 0; v < N; v++) {
+        entries += counts[0][v];
+        if (counts[0][v] > longest) longest = counts[0][v];
+    }
+    printf("| %s | %s | %u | %.1f | %s | %.2f | %.2f |\n", deck, name, longest, (double)entries / N, span(median(seam_t, ROUNDS)),
+           median(c_t, ROUNDS), median(r_t, ROUNDS));
+}
+
+static uint32_t deck_build(const char *deck, const struct kind *by) {
     uint64_t place;
-    printf("| block | call | library | beside C | beside Rust |\n|---|---|---|---|---|\n");
+    in_order(by);
+    uint32_t refused = time_build(&place);
+    deck_row(deck, by->name, refused, place);
+    return refused;
+}
+
+/* The time of a build in the order room's order over that in another, in turns. */
+static double beside_order(const uint32_t *other) {
+    uint64_t entries, place;
+    for (int round = 0; round < ROUNDS; round++) {
+        double t0 = now();
+        must(!seam_built(order, &entries, &place), "build");
+        double t1 = now();
+        must(!seam_built(other, &entries, &place), "build");
+        double t2 = now();
+        seam_t[round] = (t1 - t0) / (t2 - t1);
+    }
+    return median(seam_t, ROUNDS);
+}
+
+static void both_orders(const struct deck *d) {
+    static uint32_t first[N];
+    survey(d);
+    uint32_t refused = deck_build(d->name, &by_degree);
+    memcpy(first, order, sizeof order);
+    refused |= deck_build(d->name, &scattered);
+    if (!refused) printf("| %s | scattered over by degree | | | %.2f | | |\n", d->name, beside_order(first));
+}
+
+static void run_blocks(void) {
     grid();
     shuffled();
     run("64 x 64 grid, shuffled order");
     geometric();
-    must(seam_order_by_degree(N, starts, N + 1, places, n_places, order, N, &place) == 0, "order");
+    in_order(&by_degree);
     run("geometric, order by degree");
     scale_free();
-    must(seam_order_by_degree(N, starts, N + 1, places, n_places, order, N, &place) == 0, "order");
+    in_order(&by_degree);
     run("scale-free, order by degree");
+    grid();
+    in_order(&scattered);
+    run("64 x 64 grid, order scattered");
+    survey(DECK);
+    in_order(&scattered);
+    run("deck, order scattered");
+}
+
+int main(void) {
+    printf("| block | call | library | beside C | beside Rust |\n|---|---|---|---|---|\n");
+    run_blocks();
     printf("\nA pair question is at least %.0f times as fast as a search (%s).\n", search_ratio, search_block);
+    printf("The deck is %s.\n", DECK->name);
+    printf("\n| deck | order | longest row | mean row | build | beside C | beside Rust |\n|---|---|---|---|---|---|---|\n");
+    for (size_t i = 0; i < sizeof decks / sizeof *decks; i++) both_orders(&decks[i]);
     return 0;
 }

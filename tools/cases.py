@@ -134,17 +134,16 @@ def chain(k):
     return 4, k, order, rule_rows(4, [(0, 1), (1, 2), (2, 3)], order, k)
 
 
+def order_scattered(n, links):
+    """More links first; of equal degree, the lower v * 2531 mod 4096 first."""
+    near = lists(n, links)
+    return sorted(range(n), key=lambda v: (-len(near[v]), v * 2531 % 4096))
+
+
 def deck():
-    """Seven strips of 32 frames and a ramp of 32 that no frame of the deck overlaps, hubs by halving."""
-
-    def halved(i, bits):
-        x, back = (i + 1) % 2**bits, 0
-        for _ in range(bits):
-            x, back = x // 2, 2 * back + x % 2
-        return back
-
+    """Seven strips of 32 frames and a ramp of 32 that no frame of the deck overlaps, in order scattered."""
     links = [(v, v + 1) for v in range(256) if v % 32 < 31] + [(v, v + 32) for v in range(6 * 32)]
-    order = [halved(r % 8, 3) * 32 + halved(r // 8, 5) for r in range(256)]
+    order = order_scattered(256, links)
     return 256, 256, order, rule_rows(256, links, order, 256)
 
 

@@ -19,11 +19,12 @@
  * all joins the two. s = t is read from the row like any pair: 0 at k = n, but before that it may be above 0 or none.
  *
  * How to choose w. It is the most entries that a row can have, 1 to 256, and the label room takes n * w * 4 bytes: at w = 256 that is
- * 1 KiB a frame, 4 MiB for 4,096. A build that needs a longer row is SEAM_ROOM; then build again with a larger w or another order. How
- * long rows get depends on the order. On survey decks nearly all frames have equally many links, so that seam_order_by_degree is nearly
- * the frames' own order and rows grow long; take the middle of the deck first, then the middles of its halves, and so on. With k at
- * most the rank that SEAM_ROOM names, the same build is not refused, but uses fewer hubs. A file can be read with any w from its
- * largest count up, so always with 256; a smaller w is SEAM_ROOM.
+ * 1 KiB a frame, 4 MiB for 4,096. How long rows get depends on the order. On survey decks nearly all frames have equally many links, so
+ * that seam_order_by_degree is nearly the frames' own order and rows grow long; seam_order_scattered takes frames of equally many links
+ * from all over the deck instead (at most 123 entries in a row on four decks of 4,096 frames that were tried). A build that needs a
+ * longer row than w is SEAM_ROOM: call seam_order_scattered and build again; if that was the order, take a larger w or an order of your
+ * own. With k at most the rank that SEAM_ROOM names, the same build is not refused, but uses fewer hubs. A file can be read with any w
+ * from its largest count up, so always with 256; a smaller w is SEAM_ROOM.
  *
  * The file. Its layout is these fields, in this order and without gaps, most significant bit first; bits are numbered from 0:
  *
@@ -42,10 +43,10 @@
  *
  * What a call takes. No state is kept between calls, so they are reentrant: several threads may call at once, as long as none uses a
  * room or out value that a call of another is writing. No heap: every room belongs to the caller throughout. Stack, as the archive of
- * this tree is compiled: at most 34 KiB for seam_build and seam_order_by_degree, 18 for seam_check_links, 6 for seam_check_order,
- * seam_write and seam_read; of each, 1 KiB is allowed for memset and memcpy of the C library, the only functions called outside the
- * archive, and where these are bound late, the loader takes its own besides at their first call. The others call nothing and take less
- * than 1 KiB.
+ * this tree is compiled: at most 34 KiB for seam_build, seam_order_by_degree and seam_order_scattered, 18 for seam_check_links, 6 for
+ * seam_check_order, seam_write and seam_read; of each, 1 KiB is allowed for memset and memcpy of the C library, the only functions
+ * called outside the archive, and where these are bound late, the loader takes its own besides at their first call. The others call
+ * nothing and take less than 1 KiB.
  */
 #ifndef SEAM_H
 #define SEAM_H
@@ -97,6 +98,11 @@ uint32_t seam_check_order(size_t n, const uint32_t *order, size_t order_len, uin
 
 /* Fills the order room: more links first, of equal degree the lower frame number first. SIZE, LENGTH, STARTS, LINKS. */
 uint32_t seam_order_by_degree(size_t n, const uint32_t *starts, size_t starts_len, const uint32_t *places, size_t places_len,
+                              uint32_t *order, size_t order_len, uint64_t *place);
+
+/* Fills the order room: more links first, of equal degree the frame v with the lower v * 2,531 mod 4,096 first (no two frames have the
+ * same). The order for survey decks. SIZE, LENGTH, STARTS, LINKS. */
+uint32_t seam_order_scattered(size_t n, const uint32_t *starts, size_t starts_len, const uint32_t *places, size_t places_len,
                               uint32_t *order, size_t order_len, uint64_t *place);
 
 /* Builds the rows of the first k hubs, with room for w entries a row. labels has n * w places, counts and the two work rooms, met and

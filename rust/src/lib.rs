@@ -93,6 +93,7 @@ extern "C" {
     fn seam_check_links(n: usize, s: Room, sl: usize, p: Room, pl: usize, place: *mut u64) -> u32;
     fn seam_check_order(n: usize, o: Room, ol: usize, place: *mut u64) -> u32;
     fn seam_order_by_degree(n: usize, s: Room, sl: usize, p: Room, pl: usize, o: Lent, ol: usize, place: *mut u64) -> u32;
+    fn seam_order_scattered(n: usize, s: Room, sl: usize, p: Room, pl: usize, o: Lent, ol: usize, place: *mut u64) -> u32;
     fn seam_build(
         n: usize, w: usize, k: usize, s: Room, sl: usize, p: Room, pl: usize, o: Room, ol: usize,
         labels: Lent, ll: usize, counts: Lent, cl: usize, met: Lent, ml: usize, queue: Lent, ql: usize,
@@ -150,10 +151,24 @@ pub fn check_order(n: usize, order: &[u32]) -> Result<(), Refusal> {
     told(number, place, &[], ())
 }
 
+/// Fills the order: more links first, of equal degree the lower frame number first.
 pub fn order_by_degree(n: usize, links: Links, order: &mut [u32]) -> Result<(), Refusal> {
     let mut place = UNWRITTEN;
     let number = unsafe {
         seam_order_by_degree(
+            n, links.starts.as_ptr(), links.starts.len(), links.places.as_ptr(), links.places.len(),
+            order.as_mut_ptr(), order.len(), &mut place,
+        )
+    };
+    told(number, place, &[], ())
+}
+
+/// Fills the order: more links first, of equal degree the frame v with the lower v * 2,531 mod 4,096 first. The order for
+/// survey decks, where nearly all frames have equally many links.
+pub fn order_scattered(n: usize, links: Links, order: &mut [u32]) -> Result<(), Refusal> {
+    let mut place = UNWRITTEN;
+    let number = unsafe {
+        seam_order_scattered(
             n, links.starts.as_ptr(), links.starts.len(), links.places.as_ptr(), links.places.len(),
             order.as_mut_ptr(), order.len(), &mut place,
         )

@@ -1,4 +1,4 @@
-// Thousands of blocks, sound and damaged, against the model; guard words around the rooms that order by degree, the build and
+// Thousands of blocks, sound and damaged, against the model; guard words around the rooms that the two orders, the build and
 // the reader fill.
 
 mod model;
@@ -164,6 +164,24 @@ fn off_by_one(dice: &mut Dice, len: usize) -> usize {
     }
 }
 
+type Ordering = fn(usize, Links, &mut [u32]) -> Result<(), Refusal>;
+
+// One of the two orders, in a room of so many places: filled as the model says, or as lent.
+fn ordered(dice: &mut Dice, block: &Block, len: usize, ordering: Ordering, expected: Result<Vec<u32>, Refusal>) {
+    let mut room = Guarded::dirty(dice, len);
+    let before = room.now().to_vec();
+    let got = ordering(block.n, block.links(), room.room());
+    assert_eq!(got, expected.as_ref().map(|_| ()).map_err(|r| *r));
+    assert_eq!(room.now(), expected.unwrap_or(before));
+}
+
+// Both of them.
+fn both_orders(dice: &mut Dice, block: &Block, len: usize) {
+    let (n, starts, places) = (block.n, &block.starts, &block.places);
+    ordered(dice, block, len, seam::order_by_degree, model::order_by_degree(n, starts, places, len));
+    ordered(dice, block, len, seam::order_scattered, model::order_scattered(n, starts, places, len));
+}
+
 #[test]
 fn links_and_orders() {
     let mut dice = Dice(0x9E37_79B9_7F4A_7C15);
@@ -184,12 +202,7 @@ fn links_and_orders() {
         assert_eq!(seam::check_order(block.n, &order), model::check_order(block.n, &order));
 
         let len = off_by_one(&mut dice, block.n.min(64));
-        let mut room = Guarded::dirty(&mut dice, len);
-        let before = room.now().to_vec();
-        let expected = model::order_by_degree(block.n, &block.starts, &block.places, len);
-        let got = seam::order_by_degree(block.n, block.links(), room.room());
-        assert_eq!(got, expected.as_ref().map(|_| ()).map_err(|r| *r));
-        assert_eq!(room.now(), expected.unwrap_or(before));
+        both_orders(&mut dice, &block, len);
     }
     assert!(refused > 1000);
 }
@@ -420,6 +433,10 @@ fn limits() {
     assert_eq!(seam::check_links(4096, long.links()), Ok(()));
     let over = Block::of(4097, &chain);
     assert_eq!(seam::check_links(4097, over.links()), Err(Refusal::Size));
+    let mut dice = Dice(0x0F1E_2D3C_4B5A_6978);
+    for block in [&alone, &long, &over] {
+        both_orders(&mut dice, block, block.n);
+    }
     // The longest chain in the worst order: the last frame is 4,095 joins from the first hub, and that is not too far.
     let order: Vec<u32> = (0..4096).collect();
     let (mut labels, mut counts, mut met, mut queue) = (vec![7; 4096], vec![7; 4096], vec![7; 4096], vec![7; 4096]);
@@ -429,6 +446,25 @@ fn limits() {
     let rows = Rows { n: 4096, w: 1, labels: &labels, counts: &counts };
     assert_eq!(rows.pair(4095, 4095), Ok(Some(8190)));
     assert_eq!(rows.spread(), Ok(8190));
+}
+
+// A survey deck of 16 strips of 256 frames: order by degree is refused at the largest width, order scattered is not.
+#[test]
+fn survey_deck() {
+    let n = 4096;
+    let along = (0..n).filter(|v| v % 256 < 255).map(|v| (v, v + 1));
+    let across = (0..n - 256).map(|v| (v, v + 256));
+    let deck = Block::of(n, &along.chain(across).collect::<Vec<_>>());
+    both_orders(&mut Dice(0x1357_9BDF_0246_8ACE), &deck, n);
+    let (mut labels, mut counts, mut met, mut queue) = (vec![7; n * 256], vec![7; n], vec![7; n], vec![7; n]);
+    let mut build = |ordering: Ordering| {
+        let mut order = vec![7; n];
+        assert_eq!(ordering(n, deck.links(), &mut order), Ok(()));
+        let built = seam::build(n, 256, n, deck.links(), &order, &mut labels, &mut counts, (&mut met, &mut queue));
+        built.map(|_| *counts.iter().max().unwrap())
+    };
+    assert_eq!(build(seam::order_by_degree), Err(Refusal::Room(256)));
+    assert_eq!(build(seam::order_scattered), Ok(69));
 }
 
 // The wrapper lets no place pass with a refusal that names none.
@@ -457,6 +493,10 @@ fn by_hand() {
     let mut order = vec![9; 4];
     assert_eq!(seam::order_by_degree(4, chain.links(), &mut order), Ok(()));
     assert_eq!(order, [1, 2, 0, 3]);
+    // 1 and 2 have 2,531 and 966, 0 and 3 have 0 and 3,497.
+    let mut scattered = vec![9; 4];
+    assert_eq!(seam::order_scattered(4, chain.links(), &mut scattered), Ok(()));
+    assert_eq!(scattered, [2, 1, 0, 3]);
     let (built, labels, counts) = build(&chain, 3, 4, &order);
     assert_eq!(built, Ok(8));
     assert_eq!(counts, [2, 1, 2, 3]);

@@ -60,6 +60,11 @@ int main(void)
     TRY(SEAM_LENGTH, 0, 0, seam_order_by_degree(1, starts, 2, NONE, NONE, &place));
     TRY(SEAM_OK, 0, 0, seam_order_by_degree(1, starts, 2, NONE, ONE(filled), &place));
 
+    TRY(SEAM_SIZE, 0, 0, seam_order_scattered(0, NONE, NONE, NONE, &place));
+    TRY(SEAM_LENGTH, 0, 0, seam_order_scattered(1, NONE, NONE, ONE(filled), &place));
+    TRY(SEAM_LENGTH, 0, 0, seam_order_scattered(1, starts, 2, NONE, NONE, &place));
+    TRY(SEAM_OK, 0, 0, seam_order_scattered(1, starts, 2, NONE, ONE(filled), &place));
+
     TRY(SEAM_SIZE, 0, A, seam_build(0, 1, 0, NONE, NONE, NONE, NONE, NONE, NONE, NONE, &a, &place));
     TRY(SEAM_LENGTH, 0, A, seam_build(1, 1, 1, NONE, NONE, ONE(order), ONE(labels), ONE(counts), ONE(met), ONE(queue), &a, &place));
     TRY(SEAM_LENGTH, 0, A, seam_build(1, 1, 1, starts, 2, NONE, NONE, ONE(labels), ONE(counts), ONE(met), ONE(queue), &a, &place));

@@ -20,7 +20,7 @@ outs told rooms = record { told = told; rooms = rooms }
 abbrev pub tells : ℕ → ℕ → List ℕ → Told
 tells number place values = record { number = number; place = place; values = values }
 
--- order by degree: the order room
+-- order by degree, order scattered: the order room
 unfoldable pub orderOuts : Ordered → Outs
 orderOuts o = outs (verdictTold (o .verdict)) (o .room ∷ [])
 

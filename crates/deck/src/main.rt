@@ -5,10 +5,10 @@
 // chain joins.
 //
 // Most frames have three or four links, and an order by degree is then nearly the frames' own: rows grow to 186 entries, and
-// a build with 32 is refused with ROOM. The hubs here go by halves, the middle of the deck first, then the middles of
-// its halves, and so on, which keeps each row within 32.
+// a build with 32 is refused with ROOM. Scattered, the longest row has 27.
 use build::Built;
 use file::Written;
+use refusal::Verdict;
 
 mod survey;
 
@@ -23,8 +23,11 @@ fn main() {
     let mut starts = [0u32; 257];
     let mut places = [0u32; 1024];
     let mut order = [0u32; 256];
-    survey::hubs(&mut order);
     let end = survey::links(&mut starts, &mut places);
+    let ordered = links::order_scattered(256, &starts, &places[..end], &mut order);
+    let Verdict::Fine = ordered else {
+        return;
+    };
     let mut labels = [0u32; 8192];
     let mut counts = [0u32; 256];
     let mut met = [0u32; 256];

@@ -1,4 +1,4 @@
-// The survey's block: which frames overlap, and the hubs' order. Frame v is the frame v % 32 of strip v / 32, its column;
+// The survey's block: which frames overlap. Frame v is the frame v % 32 of strip v / 32, its column;
 // strip 7 is the ramp.
 ghost use Prim.Native.Nat.{_<_, _≤_};
 ghost use lib.ListN.{length};
@@ -79,25 +79,4 @@ pub fn links(starts: &mut [u32], places: &mut [u32]) -> usize
         v += 1;
     }
     end
-}
-
-// The five bits of a number in reverse. Of 1, 2, 3 and so on these go by halves: 16, 8, 24, 4, 20 and so on.
-fn reversed(x: usize) -> usize
-    requires { ⌜ x < 32 ⌝ }
-    ensures { λ r. ⌜ r < 32 ⌝ }
-{
-    x % 2 * 16 + x / 2 % 2 * 8 + x / 4 % 2 * 4 + x / 8 % 2 * 2 + x / 16
-}
-
-// The hubs' order: strips by halves, 4, 2, 6, 1 and so on, and for each turn of them one column, by halves too.
-pub fn hubs(order: &mut [u32])
-    requires { ⌜ 256 ≤ length (now order) ⌝ }
-{
-    let mut rank: usize = 0;
-    while rank < 256 {
-        let strip = reversed((rank + 1) % 8) / 4;
-        let column = reversed((rank / 8 + 1) % 32);
-        order[rank] = (strip * 32 + column) as u32;
-        rank += 1;
-    }
 }

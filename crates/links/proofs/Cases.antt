@@ -1,13 +1,13 @@
 -- Readings that the tests must have, computed on small cases.
 use mathlib.Core.Path.{_≡_, refl}
 use mathlib.Core.List.{[], _∷_}
-use Rattle.basics.specs.Places.{first, some, stands}
+use Rattle.basics.specs.Places.{first, some, stands, count, table}
 use Rattle.refusal.specs.Numbers.{SIZE, LENGTH, STARTS, LINKS, ORDER}
 use Rattle.refusal.specs.Sizes.{framesFit, placesFit}
 use Rattle.refusal.specs.Tests.{test, _then_, refusal, ifFine}
-use Rattle.refusal.specs.declared.Verdict.the-variants.{Refused}
+use Rattle.refusal.specs.declared.Verdict.the-variants.{Fine, Refused}
 use Rattle.links.specs.Links.{startsRight, degree, holds, faultyLink, faultyList, sizesTest, startsTest, listsTest, checkLinks}
-use Rattle.links.specs.Order.{faultyRank, orderTest, checkOrder, degreeTests, degreeOf, ordered}
+use Rattle.links.specs.Order.{faultyRank, orderTest, checkOrder, before, ahead, orderBy, degreeTests, ordered, orderedBy, degreeOf, scattered, orderScattered, scatteredOf}
 
 record Readings : Type 0 where
   -- link 0-0: LINKS at 0
@@ -25,10 +25,17 @@ record Readings : Type 0 where
   too-many-frames : checkOrder 4097 [] ≡ Refused (refusal SIZE 0)
   -- a short order room and bad links together are LENGTH, and the room is as lent
   short-room : degreeOf 1 (0 ∷ 1 ∷ []) (0 ∷ []) [] ≡ ordered (Refused (refusal LENGTH 0)) []
+  -- ring 0-1-2-3-0, all degrees 2: the scattered numbers 0, 2531, 966, 3497 decide
+  ring-scattered :
+      scatteredOf 4 (0 ∷ 2 ∷ 4 ∷ 6 ∷ 8 ∷ []) (1 ∷ 3 ∷ 0 ∷ 2 ∷ 1 ∷ 3 ∷ 0 ∷ 2 ∷ []) (9 ∷ 9 ∷ 9 ∷ 9 ∷ [])
+      ≡ ordered Fine (0 ∷ 2 ∷ 1 ∷ 3 ∷ [])
+  -- chain 0-1-2-3: 1 and 2, with two links each, go first
+  chain-scattered : orderScattered 4 (0 ∷ 1 ∷ 3 ∷ 5 ∷ 6 ∷ []) ≡ 2 ∷ 1 ∷ 0 ∷ 3 ∷ []
 
 readings : Readings
 unfolding checkLinks sizesTest framesFit placesFit startsTest startsRight listsTest faultyList faultyLink holds degree
-    checkOrder orderTest faultyRank stands degreeOf ifFine degreeTests first some test _then_
+    checkOrder orderTest faultyRank stands degreeOf orderedBy ifFine degreeTests scatteredOf orderBy
+    scattered ahead before table count first some test _then_
 readings =
     record {
       self-link = refl;
@@ -40,4 +47,6 @@ readings =
       most-frames = refl;
       too-many-frames = refl;
       short-room = refl;
+      ring-scattered = refl;
+      chain-scattered = refl;
     }

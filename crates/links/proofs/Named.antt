@@ -3,11 +3,12 @@ use Prim.Native.Nat.{ℕ}
 use mathlib.Core.Path.{_≡_}
 use mathlib.Core.List.{List}
 use native.Mathlib.Omega.{arith}
+use lib.ListN.{length}
 use Rattle.refusal.specs.Told.{verdictTold}
 use Rattle.refusal.specs.declared.Verdict.the-variants.{Fine}
 use Rattle.refusal.proofs.Laws.{Numbered, test-numbered, then-numbered, numbered-fine}
 use Rattle.links.specs.Links.{sizesTest, startsTest, listsTest, checkLinks}
-use Rattle.links.specs.Order.{orderTest, checkOrder, degreeTests, degreeOf}
+use Rattle.links.specs.Order.{orderTest, checkOrder, degreeTests, orderedBy, degreeOf, scatteredOf}
 
 sizes-numbered : (n : ℕ) (S L : List ℕ) → Numbered (sizesTest n S L)
 unfolding sizesTest
@@ -39,13 +40,19 @@ order-numbered n O =
 pub order-named : (n : ℕ) (O : List ℕ) → verdictTold (checkOrder n O) .number ≡ 0 → checkOrder n O ≡ Fine
 order-named n O = numbered-fine _ (order-numbered n O)
 
--- order by degree
-pub degree-numbered : (n : ℕ) (S L O : List ℕ) → Numbered (degreeOf n S L O .verdict)
-unfolding degreeOf degreeTests
-degree-numbered n S L O =
+-- both orders
+tests-numbered : (n : ℕ) (S L : List ℕ) (room : ℕ) → Numbered (degreeTests n S L room)
+unfolding degreeTests
+tests-numbered n S L room =
     then-numbered _ _ (sizes-numbered n S L)
     (then-numbered _ _ (test-numbered _ _ 0 (omega arith))
     (then-numbered _ _ (starts-numbered n S L) (lists-numbered n S L)))
 
 pub degree-named : (n : ℕ) (S L O : List ℕ) → verdictTold (degreeOf n S L O .verdict) .number ≡ 0 → degreeOf n S L O .verdict ≡ Fine
-degree-named n S L O = numbered-fine _ (degree-numbered n S L O)
+unfolding degreeOf orderedBy
+degree-named n S L O = numbered-fine _ (tests-numbered n S L (length O))
+
+pub scattered-named : (n : ℕ) (S L O : List ℕ) → verdictTold (scatteredOf n S L O .verdict) .number ≡ 0
+    → scatteredOf n S L O .verdict ≡ Fine
+unfolding scatteredOf orderedBy
+scattered-named n S L O = numbered-fine _ (tests-numbered n S L (length O))

@@ -1,10 +1,10 @@
-// Links and hub order: the tests that stand before everything (1 to 5), and the order by degree.
+// Links and hub order: the tests that stand before everything (1 to 5), the order by degree and the order scattered.
 use refusal::Verdict;
 ghost use mathlib.Core.Path.{_≡_};
 ghost use Rattle.refusal.specs.Told.{verdictTold};
 ghost use Rattle.links.specs.Links.{checkLinks};
-ghost use Rattle.links.specs.Order.{checkOrder, ordered, degreeOf};
-ghost use Rattle.links.specs.Inner.{blockTests};
+ghost use Rattle.links.specs.Order.{checkOrder, ordered, orderedBy, degreeOf, scatteredOf};
+ghost use Rattle.links.specs.Inner.{blockTests, tieOf};
 
 mod once;
 mod ranks;
@@ -50,7 +50,24 @@ pub fn check_order(n: usize, order: &[u32]) -> Verdict
     refusal::refused(refusal::SIZE, 0)
 }
 
-// Order by degree: tests 1 to 4, then the order room filled; as lent where a test refuses.
+// Tests 1 to 4, then the order room filled, ties broken by the scattered number or by the frame's own; as lent where a test
+// refuses.
+fn order_by(n: usize, starts: &[u32], places: &[u32], scatter: bool, order: &mut [u32]) -> Verdict
+    ensures { λ r. ⌜
+        ordered r (now (order .exit))
+        ≡ orderedBy (tieOf scatter) n (now (starts .entry)) (now (places .entry)) (now (order .entry))
+        ⌝ }
+{
+    let long = order.len() == n;
+    let links = block_tests(n, starts, places, long);
+    let Verdict::Fine = links else {
+        return links;
+    };
+    ranks::fill(n, starts, scatter, order);
+    Verdict::Fine
+}
+
+// Order by degree: more links first, of equal degree the lower frame number.
 pub fn order_by_degree(n: usize, starts: &[u32], places: &[u32], order: &mut [u32]) -> Verdict
     ensures answer { λ r. ⌜
         ordered r (now (order .exit))
@@ -62,11 +79,20 @@ pub fn order_by_degree(n: usize, starts: &[u32], places: &[u32], order: &mut [u3
         (degreeOf n (now (starts .entry)) (now (places .entry)) (now (order .entry)) .verdict)
         ⌝ }
 {
-    let long = order.len() == n;
-    let links = block_tests(n, starts, places, long);
-    let Verdict::Fine = links else {
-        return links;
-    };
-    ranks::fill(n, starts, order);
-    Verdict::Fine
+    order_by(n, starts, places, false, order)
+}
+
+// Order scattered: more links first, of equal degree the lower scattered number, v * 2,531 mod 4,096.
+pub fn order_scattered(n: usize, starts: &[u32], places: &[u32], order: &mut [u32]) -> Verdict
+    ensures answer { λ r. ⌜
+        ordered r (now (order .exit))
+        ≡ scatteredOf n (now (starts .entry)) (now (places .entry)) (now (order .entry))
+        ⌝ }
+    ensures numbers { λ r. ⌜
+        verdictTold r
+        ≡ verdictTold
+        (scatteredOf n (now (starts .entry)) (now (places .entry)) (now (order .entry)) .verdict)
+        ⌝ }
+{
+    order_by(n, starts, places, true, order)
 }

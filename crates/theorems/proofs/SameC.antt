@@ -13,6 +13,8 @@ use Rattle.capi.proofs.link_calls.seam_check_order.Kinds as seam-check-order-ki
 use Rattle.capi.proofs.link_calls.seam_check_order.Reads as seam-check-order-reads
 use Rattle.capi.proofs.link_calls.seam_order_by_degree.Kinds as seam-order-by-degree-kinds
 use Rattle.capi.proofs.link_calls.seam_order_by_degree.Reads as seam-order-by-degree-reads
+use Rattle.capi.proofs.link_calls.seam_order_scattered.Kinds as seam-order-scattered-kinds
+use Rattle.capi.proofs.link_calls.seam_order_scattered.Reads as seam-order-scattered-reads
 use Rattle.capi.proofs.build_calls.seam_build.Kinds as seam-build-kinds
 use Rattle.capi.proofs.build_calls.seam_build.Reads as seam-build-reads
 use Rattle.capi.proofs.row_calls.seam_pair.Kinds as seam-pair-kinds
@@ -60,6 +62,12 @@ pub seam-order-by-degree-same : Same 4 seam-order-by-degree-kinds.ps seam-order-
     × (now (s₁ .1 .1 .1 .1 .0) ≡ now (s₂ .1 .1 .1 .1 .0))
     × (now (s₁ .1 .1 .1 .0) ≡ now (s₂ .1 .1 .1 .0)))
 seam-order-by-degree-same κs a r₁ r₂ s₁ s₂ p q = (both (saying number) p q, both (saying place) p q, both (room 0) p q)
+
+pub seam-order-scattered-same : Same 4 seam-order-scattered-kinds.ps seam-order-scattered-kinds.r seam-order-scattered-reads.Post
+    (λ κs r₁ r₂ s₁ s₂. (r₁ ≡ r₂)
+    × (now (s₁ .1 .1 .1 .1 .0) ≡ now (s₂ .1 .1 .1 .1 .0))
+    × (now (s₁ .1 .1 .1 .0) ≡ now (s₂ .1 .1 .1 .0)))
+seam-order-scattered-same κs a r₁ r₂ s₁ s₂ p q = (both (saying number) p q, both (saying place) p q, both (room 0) p q)
 
 pub seam-build-same : Same 9 seam-build-kinds.ps seam-build-kinds.r seam-build-reads.Post
     (λ κs r₁ r₂ s₁ s₂. (r₁ ≡ r₂)

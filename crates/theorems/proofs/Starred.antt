@@ -10,7 +10,7 @@ use Rattle.theory.specs.Rows.{hubs, keep, ruleRow}
 use Rattle.theory.specs.Plain.{joinsTo, rowBy}
 use Rattle.refusal.specs.Sizes.{framesFit, widthFits, placesFit, sizesFit}
 use Rattle.links.specs.Links.{startsRight, degree, holds, faultyLink, faultyList, sizesTest, startsTest, listsTest}
-use Rattle.links.specs.Order.{faultyRank, orderTest, before, ahead, orderByDegree, degreeTests, degreeOf}
+use Rattle.links.specs.Order.{faultyRank, orderTest, before, ahead, orderBy, orderedBy, degreeTests, degreeOf}
 use Rattle.entry.specs.Entry.{rankOf, joinsOf, entryOf, decode, encode}
 use Rattle.rows.specs.Rooms.{roomsFit, roomTests, part, rowAt, faultyEntry, soundRow, frameTest, frameTests, rowTest, rowsTest}
 use Rattle.rows.specs.Meetings.{meetingsAt, meetings, goesBefore, lesserOf, leastFrom, meetingOf}
@@ -48,7 +48,7 @@ pub starred : Starred
 unfolding chainTo ring threeTo one first some count least table sum test _then_ ifFine
     inList far weight via dist hubs keep ruleRow joinsTo rowBy
     framesFit widthFits placesFit startsRight degree holds faultyLink faultyList sizesTest startsTest listsTest
-    stands faultyRank orderTest before ahead orderByDegree degreeTests degreeOf
+    stands faultyRank orderTest before ahead orderBy orderedBy degreeTests degreeOf
     rankOf joinsOf entryOf decode encode sizesFit roomsFit roomTests part rowAt faultyEntry frameTests soundRow rowTest frameTest meetings
     goesBefore rowsTest meetingsAt lesserOf leastFrom meetingOf pairTests answered pairOf
     labelsOf countsOf buildSizes buildRooms buildTests fullAt farFrame farAt stopAt walksTest afterWalks afterTests buildOf

@@ -63,14 +63,23 @@ pub fn check_order(n: usize, o: &[u32]) -> Verdict {
     order(n, o)
 }
 
-pub fn order_by_degree(n: usize, s: &[u32], p: &[u32], room: usize) -> Result<Vec<u32>, Refusal> {
+// More links first; of equal degree, the lower number of the frame first.
+fn ordered(n: usize, s: &[u32], p: &[u32], room: usize, number: fn(u32) -> u32) -> Result<Vec<u32>, Refusal> {
     sizes(n, None, None, Some(p.len()))?;
     lengths(&[(s.len(), n + 1), (room, n)])?;
     starts(n, s, p)?;
     links(n, s, p)?;
     let mut o: Vec<u32> = (0..n as u32).collect();
-    o.sort_by_key(|&v| (std::cmp::Reverse(list(s, p, v as usize).len()), v));
+    o.sort_by_key(|&v| (std::cmp::Reverse(list(s, p, v as usize).len()), number(v)));
     Ok(o)
+}
+
+pub fn order_by_degree(n: usize, s: &[u32], p: &[u32], room: usize) -> Result<Vec<u32>, Refusal> {
+    ordered(n, s, p, room, |v| v)
+}
+
+pub fn order_scattered(n: usize, s: &[u32], p: &[u32], room: usize) -> Result<Vec<u32>, Refusal> {
+    ordered(n, s, p, room, |v| v * 2531 % 4096)
 }
 
 // Breadth-first counts from one frame.
