@@ -344,13 +344,6 @@ count-gap p n b h e =
     let all : ℕ → Bool = λ i. true in
     omega (arith, count-more p all n b (λ i l m. refl) h e refl, count-most all n)
 
--- as a loop counts: the next place is marked, or it is not
-pub count-here : (marked : ℕ → Bool) (n : ℕ) → marked n ≡ true → count marked (n + 1) ≡ count marked n + 1
-count-here marked n e = ap (count marked) (add-one n) ∙ count-hit marked n e ∙ sym (add-one (count marked n))
-
-pub count-past : (marked : ℕ → Bool) (n : ℕ) → marked n ≡ false → count marked (n + 1) ≡ count marked n
-count-past marked n e = ap (count marked) (add-one n) ∙ count-miss marked n e
-
 -- ---- the least value
 
 pub least-most : (most k : ℕ) (f : ℕ → ℕ) → least most k f ≤ most
@@ -435,33 +428,32 @@ less-one h = omega arith
 
 -- ---- a search from v up to an end, as a loop goes
 
+past-one : {A : Type 0} (f : ℕ → ℕ → A) (v end : ℕ) → v < end → f v (suc (end - (v + 1))) ≡ f (suc v) (end - (v + 1))
+    → f (v + 1) (end - (v + 1)) ≡ f v (end - v)
+past-one f v end h e = ap (λ (k : ℕ). f k (end - (v + 1))) (add-one v) ∙ sym (ap (f v) (less-one h) ∙ e)
+
+no-more : {v end : ℕ} → end ≤ v → end - v ≡ 0
+no-more h = omega arith
+
 pub first-here : (marked : ℕ → Bool) (v end : ℕ) → v < end → marked v ≡ true → first marked v (end - v) ≡ v
 first-here marked v end h e = ap (first marked v) (less-one h) ∙ first-hit marked v (end - (v + 1)) e
 
 pub first-step : (marked : ℕ → Bool) (v end : ℕ) → v < end → marked v ≡ false
     → first marked (v + 1) (end - (v + 1)) ≡ first marked v (end - v)
-first-step marked v end h e =
-    ap (λ (k : ℕ). first marked k (end - (v + 1))) (add-one v)
-    ∙ sym (ap (first marked v) (less-one h) ∙ first-miss marked v (end - (v + 1)) e)
+first-step marked v end h e = past-one (first marked) v end h (first-miss marked v (end - (v + 1)) e)
 
 pub first-over : (marked : ℕ → Bool) (v end : ℕ) → end ≤ v → first marked v (end - v) ≡ v
-first-over marked v end h =
-    let none-left : end - v ≡ 0 = omega arith in
-    ap (first marked v) none-left ∙ first-end marked v
+first-over marked v end h = ap (first marked v) (no-more h) ∙ first-end marked v
 
 pub some-here : (marked : ℕ → Bool) (v end : ℕ) → v < end → marked v ≡ true → some marked v (end - v) ≡ true
 some-here marked v end h e = ap (some marked v) (less-one h) ∙ some-hit marked v (end - (v + 1)) e
 
 pub some-step : (marked : ℕ → Bool) (v end : ℕ) → v < end → marked v ≡ false
     → some marked (v + 1) (end - (v + 1)) ≡ some marked v (end - v)
-some-step marked v end h e =
-    ap (λ (k : ℕ). some marked k (end - (v + 1))) (add-one v)
-    ∙ sym (ap (some marked v) (less-one h) ∙ some-miss marked v (end - (v + 1)) e)
+some-step marked v end h e = past-one (some marked) v end h (some-miss marked v (end - (v + 1)) e)
 
 pub some-over : (marked : ℕ → Bool) (v end : ℕ) → end ≤ v → some marked v (end - v) ≡ false
-some-over marked v end h =
-    let none-left : end - v ≡ 0 = omega arith in
-    ap (some marked v) none-left ∙ some-end marked v
+some-over marked v end h = ap (some marked v) (no-more h) ∙ some-end marked v
 
 -- some place is marked exactly if the first marked place lies before the end
 pub some-first : (marked : ℕ → Bool) (a left : ℕ) → first marked a left < a + left → some marked a left ≡ true

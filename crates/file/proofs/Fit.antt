@@ -138,8 +138,7 @@ module _ (n w k : ℕ) (O labels counts : List ℕ) where
     file-bits =
         let each : length counts ≡ n = f .rooms .each in
         let long : length O ≡ n = f .long in
-        let r : bitLen (rowsFields w labels counts 0 n) ≡ 9 * n + 24 * sum counts =
-        rows-bits w labels counts 0 n (omega arith) (λ u h. fit-length u (omega arith)) in
+        let r = rows-bits w labels counts 0 n (omega arith) (λ u h. fit-length u (omega arith)) in
         omega (arith, file-takes n w k O labels counts)
 
     pub file-bytes : length (fileOf n w k O labels counts) ≡ fileSize n (sum counts)

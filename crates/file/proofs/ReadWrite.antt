@@ -160,10 +160,10 @@ module _ (s : List ℕ) (w : ℕ) (order labels counts : List ℕ) (n k : ℕ) (
       done-file n w k order₂ labels₂ counts₂ out start filled room (write-done n w k order₂ labels₂ counts₂ out start filled room e) ∙ read-then-write bytes
 
   -- and no other index has this file
-  pub one-index : (m j x : ℕ) (order₃ labels₃ counts₃ : List ℕ) → Fit m x j order₃ labels₃ counts₃ → fileOf m x j order₃ labels₃ counts₃ ≡ s
+  pub one-index : (m x j : ℕ) (order₃ labels₃ counts₃ : List ℕ) → Fit m x j order₃ labels₃ counts₃ → fileOf m x j order₃ labels₃ counts₃ ≡ s
       → SameIndex (stored m x j order₃ labels₃ counts₃) (stored n w k order₂ labels₂ counts₂)
   unfolding openedTold
-  one-index m j x order₃ labels₃ counts₃ f e =
+  one-index m x j order₃ labels₃ counts₃ f e =
       let r : Readable s w (length order) (length labels) (length counts) = readable s w _ _ _ read-fine in
       let h : Holds s m x j order₃ labels₃ counts₃ = subst (λ (t : List ℕ). Holds t m x j order₃ labels₃ counts₃) e (file-holds m x j order₃ labels₃ counts₃ f) in
       let frames : framesOf s ≡ m = frames-found h in

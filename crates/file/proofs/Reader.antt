@@ -141,11 +141,8 @@ module _ (s : List ℕ) (w : ℕ) (order labels counts : List ℕ) where
   read-fine {n} {k} {o} {l} {c} e p q f g h =
       let r : Readable s w (length order) (length labels) (length counts) = readable s w _ _ _ e in
       let m : ℕ = framesOf s in
-      let f' : o ≡ table m (frameAt s) =
-      f ∙ ap (filled (frameAt s) order 0) p ∙ filled-table (frameAt s) order m (r .orders) in
-      let g' : l ≡ table (m * w) (labelAt s m w) =
-      g ∙ ap (λ (x : ℕ). filled (labelAt s x w) labels 0 (x * w)) p ∙ filled-table (labelAt s m w) labels (m * w) (r .labelled) in
-      let h' : c ≡ table m (countAt s m) =
-      h ∙ ap (λ (x : ℕ). filled (countAt s x) counts 0 x) p ∙ filled-table (countAt s m) counts m (r .counted) in
+      let f' = f ∙ ap (filled (frameAt s) order 0) p ∙ filled-table (frameAt s) order m (r .orders) in
+      let g' = g ∙ ap (λ (x : ℕ). filled (labelAt s x w) labels 0 (x * w)) p ∙ filled-table (labelAt s m w) labels (m * w) (r .labelled) in
+      let h' = h ∙ ap (λ (x : ℕ). filled (countAt s x) counts 0 x) p ∙ filled-table (countAt s m) counts m (r .counted) in
       (λ i. readOutcome (Opened.Index (p i) (q i)) (f' i) (g' i) (h' i))
       ∙ sym (ap (λ (v : Verdict). filledIn v s w order labels counts) e)

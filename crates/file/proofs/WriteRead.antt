@@ -139,8 +139,7 @@ module _ {s : List ℕ} {n w k : ℕ} {O labels counts : List ℕ} (h : Holds s 
     pub entries-same : (v : ℕ) → v < n → rowAt w labels counts v ≡ rowAt x (labelsRead s n x) counts v
     unfolding rowAt labelsRead
     entries-same v b =
-        let long : length (rowAt x (labelsRead s n x) counts v) ≡ getD counts v 0 =
-        length-part x _ v _ b (wide v b) (length-table (n * x) (labelAt s n x)) in
+        let long = length-part x _ v _ b (wide v b) (length-table (n * x) (labelAt s n x)) in
         let old : length (rowAt w labels counts v) ≡ getD counts v 0 = fit-length n w k O labels counts (h .fits) v b in
         ext-getD 0 _ _ (old ∙ sym long) (λ i c. sym (entry-same v b i (omega arith)))
 

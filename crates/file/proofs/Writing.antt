@@ -1,5 +1,5 @@
 -- The writer's outcome by cases: refused by a test on the index, refused for want of room, written.
-use Prim.Native.Nat.{ℕ, _+_, _-_, _≤_, _<_}
+use Prim.Native.Nat.{ℕ, _+_, _-_, _≤_}
 use mathlib.Core.Path.{_≡_, refl, sym, ap, ap₂, _∙_}
 use mathlib.Core.Bool.{true}
 use mathlib.Core.List.{List, _++_}
@@ -16,14 +16,11 @@ use Rattle.refusal.specs.declared.Verdict.the-variants.{Fine, Refused}
 use Rattle.refusal.proofs.Laws.{Numbered, test-fine, test-held, then-fine, after-fine, after-refused, test-numbered, then-numbered, vcase, Named, gives-apart, refuses-apart, gives-refuses}
 use Rattle.links.specs.Order.{orderTest}
 use Rattle.rows.specs.Rooms.{rowsTest}
-use Rattle.fields.specs.Bits.{byteLen}
-use Rattle.fields.specs.Layout.{fileFields, fileOf}
+use Rattle.fields.specs.Layout.{fileOf}
 use Rattle.file.specs.Writer.{writeTests, outFits, outTest, writtenTold, writeOutcome, WriteOutcome, filledFrom, writeOf}
 use Rattle.file.specs.Inner.{Fit}
 use Rattle.file.specs.declared.Written.{Written}
 use Rattle.file.proofs.Fit.{fit}
-use Rattle.fields.proofs.LayoutLaws.{file-takes}
-use Rattle.fields.proofs.Packed.{packed-length}
 
 -- 14: where the file fits, and where it does not
 pub out-held : (room start size : ℕ) → outFits room start size ≡ true → (start ≤ room) × (size ≤ room - start)

@@ -128,8 +128,7 @@ unfolding faultyEntry
 faultless-entry n bound row i e =
     let p : (leb bound (rankOf (getD row i 0)) || leb n (joinsOf (getD row i 0)) ≡ false)
     × (ltb 0 i && leb (rankOf (getD row i 0)) (rankOf (getD row (i - 1) 0)) ≡ false) = either-false _ _ e in
-    let q : (leb bound (rankOf (getD row i 0)) ≡ false) × (leb n (joinsOf (getD row i 0)) ≡ false) =
-    either-false _ _ (p .0) in
+    let q = either-false _ _ (p .0) in
     record {
       rank = leb-false _ _ (q .0);
       joins = leb-false _ _ (q .1);

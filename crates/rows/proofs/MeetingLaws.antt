@@ -250,8 +250,7 @@ module _ {a b : List ℕ} {least : Meeting} {i j : ℕ} (m : Merged a b least i 
       (i + pastBy (rankOf (getD a i 0)) (rankOf (getD b j 0)))
       (j + pastBy (rankOf (getD b j 0)) (rankOf (getD a i 0)))
   merged-on =
-      let unlike : (rankOf (getD a i 0) ≡ rankOf (getD b j 0) → ⊥) → lesserBy least (turned (getD a i 0) (getD b j 0)) ≡ least =
-      kept least (getD a i 0) (getD b j 0) (m .small) in
+      let unlike = kept least (getD a i 0) (getD b j 0) (m .small) in
       let first : rankOf (getD a i 0) ≤ rankOf (getD b j 0) → pastBy (rankOf (getD a i 0)) (rankOf (getD b j 0)) ≡ 1 = past _ _ in
       let second : rankOf (getD b j 0) ≤ rankOf (getD a i 0) → pastBy (rankOf (getD b j 0)) (rankOf (getD a i 0)) ≡ 1 = past _ _ in
       three-ways (rankOf (getD a i 0)) (rankOf (getD b j 0))

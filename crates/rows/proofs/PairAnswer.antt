@@ -103,8 +103,7 @@ lowest-answer B n [] b small =
     let low : least B n f ≤ B = least-most B n f in
     le-antisymm high low
 lowest-answer B n (e ∷ a) b small =
-    let rest : lowest B (meetings a b) ≡ answer B n (decode a) (decode b) =
-    lowest-answer B n a b (λ i h. small (suc i) (omega arith)) in
+    let rest = lowest-answer B n a b (λ i h. small (suc i) (omega arith)) in
     lowest-append B (meetingsAt e b) (meetings a b)
     ∙ (λ i. min (lowest-at B e b i) (rest i))
     ∙ sym
