@@ -212,6 +212,47 @@ static long search(uint32_t s, uint32_t t) {
     return -1;
 }
 
+/* ---- targets */
+
+#define TARGETS 16
+#define ASKED 5000
+static seam_target targets[TARGETS];
+
+/* The joins from each frame to its nearest target, by one search from all of them; -1 without any. */
+static void search_all(long *d) {
+    static uint32_t q[N];
+    size_t head = 0, tail = 0;
+    for (size_t v = 0; v < N; v++) d[v] = -1;
+    for (size_t i = 0; i < TARGETS; i++) {
+        uint32_t v = targets[i].frame;
+        if (d[v] < 0) q[tail++] = v;
+        d[v] = 0;
+    }
+    while (head < tail) {
+        uint32_t u = q[head++];
+        for (uint32_t i = starts[u]; i < starts[u + 1]; i++)
+            if (d[places[i]] < 0) {
+                d[places[i]] = d[u] + 1;
+                q[tail++] = places[i];
+            }
+    }
+}
+
+/* The nearest target of a frame by its pair questions: the first place with the fewest joins, -1 without any. */
+static long first_fewest(uint32_t asked) {
+    uint32_t found;
+    uint64_t joins, fewest = UINT64_MAX;
+    long place = -1;
+    for (long i = 0; i < TARGETS; i++) {
+        must(!c_pair(N, W, labels[0], N * W, counts[0], N, asked, targets[i].frame, &found, &joins), "pair in C");
+        if (found && joins < fewest) {
+            fewest = joins;
+            place = i;
+        }
+    }
+    return place;
+}
+
 /* ---- timing */
 
 /* A time in figures that can be read: three of them, in µs or ms. */
@@ -290,6 +331,41 @@ static uint32_t time_build(uint64_t *place) {
     return bad[0];
 }
 
+/* The targets are the first second frames of the pairs, the asked frames the first frames. */
+static void run_nearest(const char *block) {
+    uint64_t place, target[3], sum[3] = {0, 0, 0};
+    uint32_t found[3];
+    for (uint32_t i = 0; i < TARGETS; i++) targets[i] = (seam_target){ask_t[i], i};
+#define ASK_NEAREST(x, call) for (int i = 0; i < ASKED; i++) { call; sum[x] += found[x] + target[x]; }
+    ROW_OF("nearest of 16 (5,000)", 1,
+           ASK_NEAREST(0, seam_nearest(N, W, labels[0], N * W, counts[0], N, ask_s[i], targets, TARGETS, &found[0], &target[0], &place)),
+           ASK_NEAREST(1, c_nearest(N, W, labels[0], N * W, counts[0], N, ask_s[i], targets, TARGETS, &found[1], &target[1])),
+           ASK_NEAREST(2, r_nearest(N, W, labels[0], N * W, counts[0], N, ask_s[i], targets, TARGETS, &found[2], &target[2])));
+    must(sum[0] == sum[1] && sum[1] == sum[2], "sums of nearest targets differ");
+    for (int i = 0; i < ASKED; i++) {
+        must(!seam_nearest(N, W, labels[0], N * W, counts[0], N, ask_s[i], targets, TARGETS, &found[0], &target[0], &place), "nearest");
+        must(!c_nearest(N, W, labels[0], N * W, counts[0], N, ask_s[i], targets, TARGETS, &found[1], &target[1]), "nearest in C");
+        must(!r_nearest(N, W, labels[0], N * W, counts[0], N, ask_s[i], targets, TARGETS, &found[2], &target[2]), "nearest in Rust");
+        must(found[0] == found[1] && found[1] == found[2] && target[0] == target[1] && target[1] == target[2], "nearest targets differ");
+        must(first_fewest(ask_s[i]) == (found[0] ? (long)target[0] : -1), "a nearest target is not that of the pairs");
+    }
+}
+
+static void run_sixteen(const char *block) {
+    static long d[N];
+    uint64_t place, sixteen[3][16], searched[16] = {0};
+    uint32_t bad[3];
+    ROW_OF("sixteen counts of 16", 10,
+           bad[0] = seam_sixteen(N, W, labels[0], N * W, counts[0], N, targets, TARGETS, sixteen[0], &place),
+           bad[1] = c_sixteen(N, W, labels[0], N * W, counts[0], N, targets, TARGETS, sixteen[1]),
+           bad[2] = r_sixteen(N, W, labels[0], N * W, counts[0], N, targets, TARGETS, sixteen[2]));
+    must(!bad[0] && !bad[1] && !bad[2] && same(sixteen[0], sixteen[1], sixteen[2], sizeof sixteen[0]), "sixteen counts differ");
+    search_all(d);
+    for (size_t v = 0; v < N; v++)
+        if (d[v] >= 0) searched[d[v] < 15 ? d[v] : 15]++;
+    must(!memcmp(sixteen[0], searched, sizeof searched), "the sixteen counts are not the search's");
+}
+
 static double search_ratio;
 static const char *search_block;
 
@@ -341,6 +417,8 @@ static void run(const char *block) {
         search_block = block;
     }
     printf("| %s | pair beside a search (400 pairs, %ld joins in all) | %s | %.0f times as fast | |\n", block, apart, span(per_pair), faster);
+    run_nearest(block);
+    run_sixteen(block);
     ROW_OF("spread", 20, bad[0] = seam_spread(N, W, labels[0], N * W, counts[0], N, &sp[0], &place),
            bad[1] = c_spread(N, W, labels[0], N * W, counts[0], N, &sp[1]),
            bad[2] = r_spread(N, W, labels[0], N * W, counts[0], N, &sp[2]));

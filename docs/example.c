@@ -1,5 +1,5 @@
-/* The chain 0-1-2-3 through the C interface: order by degree, a build that is refused and one that is not, one question, one row, the
- * file written, its header read, and the file read back.
+/* The chain 0-1-2-3 through the C interface: order by degree, a build that is refused and one that is not, one question, the nearest of
+ * two targets, one row, the file written, its header read, and the file read back.
  *
  *   rt staticlib capi
  *   gcc -Wall -Wextra -std=c11 -I crates/capi docs/example.c target/staticlib/libcapi.a -o example && ./example
@@ -8,10 +8,11 @@
 
 #include "seam.h"
 
-enum { FRAMES = 4, NARROW = 2, WIDTH = 3, PLACES = 6, BYTES = 64 };
+enum { FRAMES = 4, NARROW = 2, WIDTH = 3, PLACES = 6, TARGETS = 2, BYTES = 64 };
 
 static const uint32_t starts[FRAMES + 1] = {0, 1, 3, 5, 6};
 static const uint32_t places[PLACES] = {1, 0, 2, 1, 3, 2};
+static const seam_target targets[TARGETS] = {{.frame = 0, .mark = 71}, {.frame = 3, .mark = 72}};
 
 static uint32_t order[FRAMES], labels[FRAMES * WIDTH], counts[FRAMES], met[FRAMES], queue[FRAMES];
 static uint8_t out[BYTES];
@@ -27,7 +28,7 @@ static int refused(const char *call, uint32_t number, const uint64_t *place)
 
 int main(void)
 {
-    uint64_t place, entries, joins, start, count, bytes, n, k;
+    uint64_t place, entries, joins, target, start, count, bytes, n, k;
     uint32_t found, number;
 
     if (refused("order", seam_order_by_degree(FRAMES, starts, FRAMES + 1, places, PLACES, order, FRAMES, &place), &place))
@@ -58,6 +59,17 @@ int main(void)
         printf("0 to 3: %llu joins\n", (unsigned long long)joins);
     else
         printf("0 to 3: none\n");
+
+    /* A target's place in the list comes back; its mark is for the caller alone. */
+    if (refused("nearest",
+                seam_nearest(FRAMES, WIDTH, labels, FRAMES * WIDTH, counts, FRAMES, 2, targets, TARGETS, &found, &target,
+                             &place),
+                &place))
+        return 1;
+    if (found)
+        printf("nearest to 2: target %llu, mark %u\n", (unsigned long long)target, (unsigned)targets[target].mark);
+    else
+        printf("nearest to 2: none\n");
 
     /* A row has ranks; the order says which frame is the hub. */
     if (refused("row",

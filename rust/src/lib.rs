@@ -14,7 +14,7 @@ pub enum Refusal {
     /// Build: the lowest rank at which a row needs over W entries. Read: the frame whose count is over W.
     Room(usize),
     Far,
-    /// 0 for the first asked frame, 1 for the second.
+    /// 0 for the first asked frame, 1 for the second; for a target's frame its place in the list plus one.
     Frame(usize),
     /// The frame whose row is not sound.
     Row(usize),
@@ -73,6 +73,14 @@ pub struct Rows<'a> {
     pub counts: &'a [u32],
 }
 
+/// A target: its frame, and a mark that no call tests or reads.
+#[derive(Clone, Copy, Debug, PartialEq, Eq)]
+#[repr(C)]
+pub struct Target {
+    pub frame: u32,
+    pub mark: u32,
+}
+
 pub fn rank_of(entry: u32) -> u32 {
     entry / 65_536
 }
@@ -109,6 +117,14 @@ extern "C" {
         start: *mut u64, count: *mut u64, place: *mut u64,
     ) -> u32;
     fn seam_spread(n: usize, w: usize, labels: Room, ll: usize, counts: Room, cl: usize, spread: *mut u64, place: *mut u64) -> u32;
+    fn seam_nearest(
+        n: usize, w: usize, labels: Room, ll: usize, counts: Room, cl: usize, asked: usize, targets: *const Target, tl: usize,
+        found: *mut u32, target: *mut u64, place: *mut u64,
+    ) -> u32;
+    fn seam_sixteen(
+        n: usize, w: usize, labels: Room, ll: usize, counts: Room, cl: usize, targets: *const Target, tl: usize,
+        sixteen: *mut u64, place: *mut u64,
+    ) -> u32;
     fn seam_write(
         n: usize, w: usize, k: usize, o: Room, ol: usize, labels: Room, ll: usize, counts: Room, cl: usize,
         out: *mut u8, outl: usize, start: usize, bytes: *mut u64, place: *mut u64,
@@ -240,6 +256,34 @@ impl<'a> Rows<'a> {
             )
         };
         told(number, place, &[spread], spread as usize)
+    }
+
+    /// The place in the list of the target with the fewest joins from the asked frame, the first such place on equal counts, or
+    /// none. At most 16 targets.
+    pub fn nearest(&self, asked: usize, targets: &[Target]) -> Result<Option<usize>, Refusal> {
+        let (mut found, mut target, mut place) = (7u32, UNWRITTEN, UNWRITTEN);
+        let number = unsafe {
+            seam_nearest(
+                self.n, self.w, self.labels.as_ptr(), self.labels.len(), self.counts.as_ptr(), self.counts.len(), asked,
+                targets.as_ptr(), targets.len(), &mut found, &mut target, &mut place,
+            )
+        };
+        assert!(found <= 1);
+        assert!(found == 1 || target == 0, "none with a target");
+        told(number, place, &[target, if number == 0 { 0 } else { found as u64 }], (found == 1).then_some(target as usize))
+    }
+
+    /// At place i the frames whose nearest target is i joins away, at place 15 those with 15 and more; frames without any target
+    /// are left out. At most 16 targets.
+    pub fn sixteen(&self, targets: &[Target]) -> Result<[u64; 16], Refusal> {
+        let (mut sixteen, mut place) = ([UNWRITTEN; 16], UNWRITTEN);
+        let number = unsafe {
+            seam_sixteen(
+                self.n, self.w, self.labels.as_ptr(), self.labels.len(), self.counts.as_ptr(), self.counts.len(),
+                targets.as_ptr(), targets.len(), sixteen.as_mut_ptr(), &mut place,
+            )
+        };
+        told(number, place, &sixteen, sixteen)
     }
 
     /// Writes the file of this index from out[start] on; the number of bytes filled.

@@ -1,9 +1,9 @@
 // Thousands of blocks, sound and damaged, against the model; guard words around the rooms that the two orders, the build and
-// the reader fill.
+// the reader fill, and around the sixteen counts.
 
 mod model;
 
-use seam::{Links, Refusal, Rows};
+use seam::{Links, Refusal, Rows, Target};
 
 // xorshift: the same blocks in every run.
 struct Dice(u64);
@@ -210,7 +210,7 @@ fn links_and_orders() {
 #[test]
 fn builds_questions_files() {
     let mut dice = Dice(0x1234_5678_9ABC_DEF1);
-    let (mut built, mut full) = (0, 0);
+    let (mut built, mut full, mut seen) = (0, 0, Seen::default());
     for _ in 0..8000 {
         let mut block = Block::random(&mut dice);
         let n = block.n;
@@ -259,7 +259,7 @@ fn builds_questions_files() {
                 assert_eq!(rooms[0].now(), index.labels);
                 assert_eq!(rooms[1].now(), index.counts);
                 assert!(rooms[2..].iter().all(|r| r.now().iter().all(|&x| x == 0)));
-                questions(&mut dice, &block, w, k, &order, &index);
+                questions(&mut dice, &block, w, k, &order, &index, &mut seen);
             }
             Ok(None) => unreachable!(),
             Err(refusal) => {
@@ -274,13 +274,15 @@ fn builds_questions_files() {
         }
     }
     assert!(built > 2500 && full > 500, "{built} built, {full} full");
+    assert!(seen.enough(), "{seen:?}");
 }
 
 // Every pair against breadth-first counts through the first k hubs; then damaged rooms, and files.
-fn questions(dice: &mut Dice, block: &Block, w: usize, k: usize, order: &[u32], index: &model::Built) {
+fn questions(dice: &mut Dice, block: &Block, w: usize, k: usize, order: &[u32], index: &model::Built, seen: &mut Seen) {
     let n = block.n;
     let d: Vec<_> = (0..n).map(|v| model::counts_from(n, &block.starts, &block.places, v)).collect();
     let rows = Rows { n, w, labels: &index.labels, counts: &index.counts };
+    let mut answers = vec![vec![None; n]; n];
     for s in 0..n {
         for t in 0..n {
             let answer = rows.pair(s, t).unwrap();
@@ -288,10 +290,12 @@ fn questions(dice: &mut Dice, block: &Block, w: usize, k: usize, order: &[u32], 
             if k == n {
                 assert_eq!(answer, d[s][t]);
             }
+            answers[s][t] = answer;
         }
         assert_eq!(rows.row(s).unwrap(), &index.labels[s * w..s * w + index.counts[s] as usize]);
     }
     assert_eq!(rows.spread(), model::spread(n, w, &index.labels, &index.counts));
+    targets(dice, &rows, &answers, seen);
     spare(block, w, k, order, index);
 
     let (mut labels, mut counts, mut order) = (index.labels.clone(), index.counts.clone(), order.to_vec());
@@ -330,7 +334,141 @@ fn questions(dice: &mut Dice, block: &Block, w: usize, k: usize, order: &[u32], 
         assert_eq!(rows.row(s), row);
     }
     assert_eq!(rows.spread(), model::spread(asked, width, &labels, &counts));
+    damaged_targets(dice, n, &rows, seen);
     files(dice, asked, width, k, &order, &labels, &counts);
+}
+
+// What the lists of targets came to: frames with more than one nearest, without any, and 15 or more joins away; refusals.
+#[derive(Debug, Default)]
+struct Seen {
+    tied: u32,
+    none: u32,
+    far: u32,
+    frame: u32,
+    row: u32,
+    row_of_target: u32,
+    row_of_all: u32,
+}
+
+impl Seen {
+    fn enough(&self) -> bool {
+        [self.tied, self.none, self.far, self.frame, self.row, self.row_of_target, self.row_of_all].iter().all(|&times| times > 200)
+    }
+
+    fn refused(&mut self, asked: usize, nearest: Option<Refusal>, sixteen: Option<Refusal>) {
+        match nearest {
+            Some(Refusal::Frame(place)) => self.frame += (place > 0) as u32,
+            Some(Refusal::Row(v)) if v == asked => self.row += 1,
+            Some(Refusal::Row(_)) => self.row_of_target += 1,
+            _ => {}
+        }
+        self.row_of_all += matches!(sixteen, Some(Refusal::Row(_))) as u32;
+    }
+}
+
+// Up to 16 targets, some frames more than once, half of the marks below n; where damaged, also 17, and frames of n or more.
+fn list_of(dice: &mut Dice, n: usize, damaged: bool) -> Vec<Target> {
+    let len = match dice.below(8) {
+        0 => 0,
+        1 => 1,
+        2 => 2,
+        3 => 16,
+        4 if damaged => 17,
+        _ => dice.below(17),
+    };
+    let (from, frames) = (dice.below(n), 1 + dice.below(n));
+    let mut list: Vec<Target> =
+        (0..len).map(|_| Target { frame: ((from + dice.below(frames)) % n) as u32, mark: mark(dice, n) }).collect();
+    if damaged && dice.one_in(4) {
+        for _ in 0..len.min(2) {
+            let at = dice.below(len);
+            list[at].frame = dice.odd_number(n);
+        }
+    }
+    list
+}
+
+fn mark(dice: &mut Dice, n: usize) -> u32 {
+    if dice.one_in(2) { dice.below(n) as u32 } else { dice.next() as u32 }
+}
+
+fn remarked(dice: &mut Dice, n: usize, list: &[Target]) -> Vec<Target> {
+    list.iter().map(|t| Target { mark: mark(dice, n), ..*t }).collect()
+}
+
+extern "C" {
+    fn seam_sixteen(
+        n: usize, w: usize, labels: *const u32, ll: usize, counts: *const u32, cl: usize, targets: *const Target, tl: usize,
+        sixteen: *mut u64, place: *mut u64,
+    ) -> u32;
+}
+
+// The sixteen counts in a room with guard words on both sides, which the wrapper's own room has not; and the wrapper's answer.
+fn sixteen(dice: &mut Dice, rows: &Rows, list: &[Target]) -> Result<[u64; 16], Refusal> {
+    const GUARDS: u64 = GUARD as u64 * 0x1_0000_0001;
+    let (mut all, mut place) = ([GUARDS; 24], dice.next());
+    all[4..20].iter_mut().for_each(|count| *count = dice.next());
+    let number = unsafe {
+        seam_sixteen(
+            rows.n, rows.w, rows.labels.as_ptr(), rows.labels.len(), rows.counts.as_ptr(), rows.counts.len(),
+            list.as_ptr(), list.len(), all[4..].as_mut_ptr(), &mut place,
+        )
+    };
+    assert!(all[..4].iter().chain(&all[20..]).all(|&x| x == GUARDS), "a guard word was overwritten");
+    let got = rows.sixteen(list);
+    assert_eq!(Refusal::of(number, place), got.err());
+    assert_eq!(all[4..20], got.unwrap_or([0; 16]));
+    got
+}
+
+// The nearest target of every frame and the sixteen counts, for sound rows, by the answers of all pairs.
+fn targets(dice: &mut Dice, rows: &Rows, answers: &[Vec<Option<usize>>], seen: &mut Seen) {
+    let n = rows.n;
+    for _ in 0..2 {
+        let list = list_of(dice, n, false);
+        let other = remarked(dice, n, &list);
+        let mut nearest = vec![];
+        for v in 0..n {
+            let joins: Vec<Option<usize>> = list.iter().map(|t| answers[v][t.frame as usize]).collect();
+            let fewest = model::fewest(&joins);
+            let place = fewest.map(|(_, place)| place);
+            assert_eq!(rows.nearest(v, &list), Ok(place));
+            assert_eq!(rows.nearest(v, &other), Ok(place), "the mark was read");
+            if let Some((fewest, place)) = fewest {
+                seen.tied += joins[place + 1..].contains(&Some(fewest)) as u32;
+                seen.far += (fewest >= 15) as u32;
+            }
+            seen.none += (!list.is_empty() && fewest.is_none()) as u32;
+            nearest.push(fewest.map(|(joins, _)| joins));
+        }
+        let reached = nearest.iter().flatten().count() as u64;
+        let counts = model::tallied(nearest.into_iter());
+        assert_eq!(sixteen(dice, rows, &list), Ok(counts));
+        assert_eq!(rows.sixteen(&other), Ok(counts), "the mark was read");
+        assert_eq!(counts.iter().sum::<u64>(), reached);
+    }
+}
+
+// The same for rooms and lists of any kind, against the model; up to three counts more are damaged.
+fn damaged_targets(dice: &mut Dice, n: usize, rows: &Rows, seen: &mut Seen) {
+    let mut counts = rows.counts.to_vec();
+    for _ in 0..dice.below(4) {
+        let at = dice.below(n);
+        counts[at] = dice.odd_number(rows.w.min(256));
+    }
+    let rows = &Rows { counts: &counts, ..*rows };
+    for _ in 0..6 {
+        let list = list_of(dice, n, true);
+        let other = remarked(dice, n, &list);
+        let v = if dice.one_in(8) { [n, usize::MAX][dice.below(2)] } else { dice.below(n) };
+        let nearest = model::nearest(rows.n, rows.w, rows.labels, rows.counts, v, &list);
+        assert_eq!(rows.nearest(v, &list), nearest);
+        assert_eq!(rows.nearest(v, &other), nearest, "the mark was read");
+        let counted = model::sixteen(rows.n, rows.w, rows.labels, rows.counts, &list);
+        assert_eq!(sixteen(dice, rows, &list), counted);
+        assert_eq!(rows.sixteen(&other), counted, "the mark was read");
+        seen.refused(v, nearest.err(), counted.err());
+    }
 }
 
 // No entry is spare: with any one taken out of one row, some pair's answer changes.
@@ -446,6 +584,16 @@ fn limits() {
     let rows = Rows { n: 4096, w: 1, labels: &labels, counts: &counts };
     assert_eq!(rows.pair(4095, 4095), Ok(Some(8190)));
     assert_eq!(rows.spread(), Ok(8190));
+    // Its last frame as a target is 4,095 joins from the first frame and 8,190 from itself; 16 targets are taken, 17 are not.
+    let at = |frame: u32| Target { frame, mark: frame };
+    assert_eq!(rows.nearest(4095, &[at(4095)]), Ok(Some(0)));
+    assert_eq!(rows.sixteen(&[at(4095)]), Ok([0, 0, 0, 0, 0, 0, 0, 0, 0, 0, 0, 0, 0, 0, 0, 4096]));
+    assert_eq!(rows.sixteen(&[at(4095), at(0)]), Ok([1, 1, 1, 1, 1, 1, 1, 1, 1, 1, 1, 1, 1, 1, 1, 4081]));
+    let many: Vec<Target> = (4079..4096).rev().map(at).collect();
+    assert_eq!(rows.nearest(0, &many[..16]), Ok(Some(15)));
+    assert_eq!(rows.nearest(0, &many), Err(Refusal::Size));
+    assert_eq!(rows.sixteen(&many[1..]), Ok([0, 0, 0, 0, 0, 0, 0, 0, 0, 0, 0, 0, 0, 0, 0, 4096]));
+    assert_eq!(rows.sixteen(&many), Err(Refusal::Size));
 }
 
 // A survey deck of 16 strips of 256 frames: order by degree is refused at the largest width, order scattered is not.
@@ -465,6 +613,19 @@ fn survey_deck() {
     };
     assert_eq!(build(seam::order_by_degree), Err(Refusal::Room(256)));
     assert_eq!(build(seam::order_scattered), Ok(69));
+
+    // Sixteen targets all over the deck: each frame's nearest, by a search from each target.
+    let list: Vec<Target> = (0..16).map(|i| Target { frame: (i * 2531 + 77) % 4096, mark: i }).collect();
+    let from: Vec<_> = list.iter().map(|t| model::counts_from(n, &deck.starts, &deck.places, t.frame as usize)).collect();
+    let rows = Rows { n, w: 256, labels: &labels, counts: &counts };
+    let mut nearest = vec![];
+    for v in 0..n {
+        let joins: Vec<Option<usize>> = from.iter().map(|d| d[v]).collect();
+        let (fewest, place) = model::fewest(&joins).unwrap();
+        assert_eq!(rows.nearest(v, &list), Ok(Some(place)));
+        nearest.push(Some(fewest));
+    }
+    assert_eq!(rows.sixteen(&list), Ok(model::tallied(nearest.into_iter())));
 }
 
 // The wrapper lets no place pass with a refusal that names none.
@@ -505,6 +666,7 @@ fn by_hand() {
     let rows = Rows { n: 4, w: 3, labels: &labels, counts: &counts };
     assert_eq!(rows.pair(0, 3), Ok(Some(3)));
     assert_eq!(rows.spread(), Ok(4));
+    targets_by_hand(&labels, &counts);
     let mut out = vec![0; 39];
     assert_eq!(rows.write(4, &order, &mut out, 0), Ok(39));
     assert_eq!(rows.write(3, &order, &mut out, 0), Err(Refusal::Row(3)));
@@ -517,9 +679,14 @@ fn by_hand() {
     assert_eq!(built, Ok(4));
     let rows = Rows { n: 4, w: 3, labels: &labels, counts: &counts };
     assert_eq!((rows.pair(0, 0), rows.pair(2, 3)), (Ok(Some(2)), Ok(Some(3))));
+    // Frame 0 is no hub yet: 2 joins from itself, as far as from frame 2.
+    let own = [Target { frame: 2, mark: 0 }, Target { frame: 0, mark: 0 }];
+    assert_eq!(rows.nearest(0, &own), Ok(Some(0)));
+    assert_eq!(rows.sixteen(&own[1..]), Ok([0, 1, 2, 1, 0, 0, 0, 0, 0, 0, 0, 0, 0, 0, 0, 0]));
     let (_, labels, counts) = build(&chain, 3, 0, &order);
     let rows = Rows { n: 4, w: 3, labels: &labels, counts: &counts };
     assert!((0..16).all(|p| rows.pair(p / 4, p % 4) == Ok(None)));
+    assert_eq!((rows.nearest(0, &own), rows.sixteen(&own)), (Ok(None), Ok([0; 16])));
 
     let ring = Block::of(4, &[(0, 1), (1, 2), (2, 3), (3, 0)]);
     let (built, labels, counts) = build(&ring, 3, 4, &[0, 1, 2, 3]);
@@ -551,4 +718,40 @@ fn by_hand() {
     assert_eq!(seam::check_links(5, unsorted), Err(Refusal::Links(2)));
     assert_eq!(seam::check_links(1, Links { starts: &[0, 1], places: &[0] }), Err(Refusal::Links(0)));
     assert_eq!(seam::read(&[], 3, &mut [], &mut [], &mut []), Err(Refusal::Short(0)));
+}
+
+// Targets on the chain 0-1-2-3, built to k = 4 with W = 3: answers, and each refusal before the next.
+fn targets_by_hand(labels: &[u32], counts: &[u32]) {
+    let rows = Rows { n: 4, w: 3, labels, counts };
+    let at = |frames: &[u32]| -> Vec<Target> { frames.iter().map(|&frame| Target { frame, mark: 3 - frame.min(3) }).collect() };
+    let counted = |first: [u64; 4]| -> Result<[u64; 16], Refusal> {
+        let mut sixteen = [0; 16];
+        sixteen[..4].copy_from_slice(&first);
+        Ok(sixteen)
+    };
+    assert_eq!(rows.nearest(0, &at(&[3, 1, 2])), Ok(Some(1)));
+    assert_eq!(rows.nearest(1, &at(&[3, 2, 0, 2])), Ok(Some(1)));
+    assert_eq!(rows.nearest(1, &at(&[0, 2])), Ok(Some(0)));
+    assert_eq!(rows.nearest(3, &at(&[2, 3, 3])), Ok(Some(1)));
+    assert_eq!((rows.nearest(0, &[]), rows.sixteen(&[])), (Ok(None), Ok([0; 16])));
+    assert_eq!(rows.sixteen(&at(&[0])), counted([1, 1, 1, 1]));
+    assert_eq!(rows.sixteen(&at(&[3, 0])), counted([2, 2, 0, 0]));
+    assert_eq!(rows.sixteen(&at(&[2, 1, 1])), counted([2, 2, 0, 0]));
+
+    // The rows of 1 and 3 are not sound.
+    let mut bad = counts.to_vec();
+    bad[1] = 4;
+    bad[3] = 4;
+    let hurt = Rows { counts: &bad, ..rows };
+    let short = Rows { labels: &labels[1..], ..hurt };
+    let many = at(&[9; 17]);
+    assert_eq!((short.nearest(9, &many), short.sixteen(&many)), (Err(Refusal::Size), Err(Refusal::Size)));
+    assert_eq!((short.nearest(9, &many[1..]), short.sixteen(&many[1..])), (Err(Refusal::Length), Err(Refusal::Length)));
+    assert_eq!(hurt.nearest(4, &at(&[1, 4])), Err(Refusal::Frame(0)));
+    assert_eq!(hurt.nearest(3, &at(&[1, 4, 5])), Err(Refusal::Frame(2)));
+    assert_eq!(hurt.sixteen(&at(&[4, 1])), Err(Refusal::Frame(1)));
+    assert_eq!(hurt.nearest(3, &at(&[1])), Err(Refusal::Row(3)));
+    assert_eq!(hurt.nearest(0, &at(&[2, 3, 1])), Err(Refusal::Row(3)));
+    assert_eq!(hurt.nearest(0, &at(&[2, 0])), Ok(Some(1)));
+    assert_eq!((hurt.sixteen(&at(&[3])), hurt.sixteen(&[])), (Err(Refusal::Row(1)), Err(Refusal::Row(1))));
 }

@@ -167,6 +167,15 @@ first-none marked a left none =
     (λ l. not-both (first-marked marked a left l) (none (first marked a left) (first-low marked a left) l))
     (λ g. omega (arith, first-high marked a left))
 
+pub first-ext : (p q : ℕ → Bool) (a left : ℕ) → ((j : ℕ) → a ≤ j → j < a + left → p j ≡ q j) → first p a left ≡ first q a left
+unfolding first
+first-ext p q a zero same = refl
+first-ext p q a (suc left) same =
+    let here : p a ≡ q a = same a (omega arith) (omega arith) in
+    let rest : first p (suc a) left ≡ first q (suc a) left =
+    first-ext p q (suc a) left (λ j h k. same j (omega arith) (omega arith)) in
+    λ i. cond (here i) a (rest i)
+
 -- ---- some marked place
 
 pub some-hit : (marked : ℕ → Bool) (a left : ℕ) → marked a ≡ true → some marked a (suc left) ≡ true
@@ -376,6 +385,12 @@ least-found most (suc k) f h =
     (i, omega arith, omega arith))
     (λ g. (k, omega arith, omega arith))
 
+pub least-ext : (most k : ℕ) (f g : ℕ → ℕ) → ((i : ℕ) → i < k → f i ≡ g i) → least most k f ≡ least most k g
+unfolding least
+least-ext most zero f g same = refl
+least-ext most (suc k) f g same =
+    omega (arith, same k (omega arith), least-ext most k f g (λ i h. same i (omega arith)))
+
 -- ---- tables
 
 pub length-table {ℓ} : {A : Type ℓ} (n : ℕ) (f : ℕ → A) → length (table n f) ≡ n
@@ -421,6 +436,11 @@ set-cases l i j a d h =
     by-cases (ℕ-discrete j i)
     (λ (q : j ≡ i). inl (q, ap (λ (k : ℕ). getD (set l i a) k d) q ∙ getD-set-same l i a d h))
     (λ q. inr (q, getD-set-other l i j a d q))
+
+pub set-own : (l : List ℕ) (i : ℕ) → set l i (getD l i 0) ≡ l
+set-own [] i = refl
+set-own (x ∷ l) zero = refl
+set-own (x ∷ l) (suc i) = ap (_∷_ x) (set-own l i)
 
 -- what is left shrinks by one
 pub less-one : {v n : ℕ} → v < n → n - v ≡ suc (n - (v + 1))
@@ -480,6 +500,23 @@ found-low marked a left e = omega (arith, first-low marked a left)
 pub count-zero : (p : ℕ → Bool) (n : ℕ) → ((i : ℕ) → i < n → p i ≡ false) → count p n ≡ 0
 count-zero p zero none = count-none p
 count-zero p (suc n) none = count-miss p n (none n (omega arith)) ∙ count-zero p n (λ i h. none i (omega arith))
+
+-- none is counted, and none is marked; some are counted, and one is marked
+pub none-counted : (p : ℕ → Bool) (k : ℕ) → count p k ≡ 0 → (i : ℕ) → i < k → p i ≡ false
+none-counted p zero e i h = absurd (omega arith)
+none-counted p (suc k) e i h =
+    bcase (p k)
+    (λ q. absurd (omega (arith, count-hit p k q)))
+    (λ q.
+    by-cases (ℕ-discrete i k)
+    (λ (r : i ≡ k). ap p r ∙ q)
+    (λ r. none-counted p k (sym (count-miss p k q) ∙ e) i (omega arith)))
+
+pub some-counted : (p : ℕ → Bool) (k : ℕ) → 0 < count p k → some p 0 k ≡ true
+some-counted p k h =
+    bcase (some p 0 k)
+    (λ q. q)
+    (λ q. absurd (omega (arith, count-zero p k (λ i b. some-not p 0 k i q (omega arith) (omega arith)))))
 
 -- what one of two marks, where never both do
 pub count-or : (p q : ℕ → Bool) (n : ℕ) → ((i : ℕ) → p i ≡ true → q i ≡ false) → count (λ i. p i || q i) n ≡ count p n + count q n

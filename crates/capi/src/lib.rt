@@ -4,4 +4,5 @@ pub mod build_calls;
 pub mod file_calls;
 pub mod link_calls;
 pub mod row_calls;
+pub mod target_calls;
 mod tell;

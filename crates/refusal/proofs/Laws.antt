@@ -96,6 +96,15 @@ tests-fine t n each = fine-from t 0 n (λ u _ h. each u (omega arith))
 pub tests-each : (t : ℕ → Verdict) (n : ℕ) → testsFrom t 0 n ≡ Fine → (u : ℕ) → u < n → t u ≡ Fine
 tests-each t n e u h = each-from t 0 n e u (omega arith) (omega arith)
 
+pub tests-ext : (t u : ℕ → Verdict) (v left : ℕ) → ((j : ℕ) → v ≤ j → j < v + left → t j ≡ u j) → testsFrom t v left ≡ testsFrom u v left
+unfolding testsFrom
+tests-ext t u v zero same = refl
+tests-ext t u v (suc left) same =
+    let here : t v ≡ u v = same v (omega arith) (omega arith) in
+    let rest : testsFrom t (suc v) left ≡ testsFrom u (suc v) left =
+    tests-ext t u (suc v) left (λ j h k. same j (omega arith) (omega arith)) in
+    λ i. here i then rest i
+
 -- the lowest of n that is marked: n where none is, else it is refused
 module _ (marked : ℕ → Bool) (n number : ℕ) {v : ℕ} (e : v ≡ first marked 0 n) where
   pub lowest-fine : v ≡ n → lowestTest marked n number ≡ Fine

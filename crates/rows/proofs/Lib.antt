@@ -1,3 +1,4 @@
+pub mod Faults
 pub mod LaidLaws
 pub mod Laws
 pub mod MeetingLaws

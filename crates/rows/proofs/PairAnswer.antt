@@ -72,7 +72,7 @@ join : (B d x y L : ℕ) → L ≤ B → min (min d x + y) (min B L) ≡ min (mi
 join B d x y L h = omega arith
 
 -- one more entry in the first row
-least-one : (B k : ℕ) (x y : ℕ → ℕ) (p d : ℕ)
+pub least-one : (B k : ℕ) (x y : ℕ → ℕ) (p d : ℕ)
     → least B k (λ r. min (cond (eqb p r) d B) (x r) + y r)
     ≡ min (cond (ltb p k) (min B (d + y p)) B) (least B k (λ r. x r + y r))
 unfolding least

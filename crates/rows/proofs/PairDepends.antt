@@ -35,7 +35,7 @@ pub record SameRow (w : ℕ) (labels counts labels' counts' : List ℕ) (v : ℕ
   pub count : getD counts v 0 ≡ getD counts' v 0
   pub entries : (i : ℕ) → i < getD counts v 0 → i < w → getD labels (v * w + i) 0 ≡ getD labels' (v * w + i) 0
 
-row-same : (w : ℕ) (labels counts labels' counts' : List ℕ) (v : ℕ) → length labels ≡ length labels'
+pub row-same : (w : ℕ) (labels counts labels' counts' : List ℕ) (v : ℕ) → length labels ≡ length labels'
     → SameRow w labels counts labels' counts' v → getD counts v 0 ≤ w → rowAt w labels counts v ≡ rowAt w labels' counts' v
 unfolding rowAt part
 row-same w labels counts labels' counts' v e same h =
@@ -50,7 +50,7 @@ row-same w labels counts labels' counts' v e same h =
     ∙ same .entries i l (omega arith)
     ∙ sym (getD-part w labels' v d i (omega (arith, same .count))))
 
-sound-same : (n w bound : ℕ) (labels counts labels' counts' : List ℕ) (v : ℕ) → length labels ≡ length labels'
+pub sound-same : (n w bound : ℕ) (labels counts labels' counts' : List ℕ) (v : ℕ) → length labels ≡ length labels'
     → SameRow w labels counts labels' counts' v → soundRow n w bound labels counts v ≡ soundRow n w bound labels' counts' v
 unfolding soundRow
 sound-same n w bound labels counts labels' counts' v e same =
@@ -92,7 +92,7 @@ pair-depends n w labels counts labels' counts' s t e f first second =
 -- ---- the paper's numbers tell
 
 -- a shared rank is not none
-shared-or-not {ℓ} : {C : Type ℓ} {j : ℕ} → 1 ∷ j ∷ [] ≡ 0 ∷ 0 ∷ [] → C
+pub shared-or-not {ℓ} : {C : Type ℓ} {j : ℕ} → 1 ∷ j ∷ [] ≡ 0 ∷ 0 ∷ [] → C
 shared-or-not e = let z : _≡_ {A = ℕ} 1 0 = ap (λ (vs : List ℕ). getD vs 0 0) e in absurd (omega arith)
 
 -- answers with the same numbers are the same

@@ -2,13 +2,13 @@
 -- its room, rooms that hold given rows, and one turn of the merge.
 use Prim.Native.Nat.{ℕ, _+_, _*_, _≤_, _<_}
 use mathlib.Core.Path.{_≡_}
-use mathlib.Core.Bool.{cond}
+use mathlib.Core.Bool.{Bool, cond, _||_}
 use mathlib.Core.List.{List, [], _∷_}
 use lib.ListN.{length, getD}
 use lib.Dec.{eqb, leb, ltb}
 use Rattle.refusal.specs.Inner.{Sizes}
 use Rattle.theory.specs.Rows.{Row}
-use Rattle.entry.specs.Entry.{rankOf, rankStep}
+use Rattle.entry.specs.Entry.{rankOf, joinsOf, rankStep}
 use Rattle.rows.specs.Laid.{labelsOf, countsOf}
 use Rattle.rows.specs.Rooms.{rowAt}
 use Rattle.rows.specs.Spread.{joinsAtZero}
@@ -37,6 +37,18 @@ pub record Rises (row : List ℕ) : Type 0 where
 pub record RowIn (w : ℕ) (labels counts : List ℕ) (v : ℕ) : Type 0 where
   pub row : RowLies w labels counts v
   pub rises : Rises (rowAt w labels counts v)
+
+-- an entry breaks the rule behind the one before it: rank not above it, or joins not below n
+unfoldable pub breaks : ℕ → ℕ → ℕ → Bool
+breaks n before e = leb (rankOf e) (rankOf before) || leb n (joinsOf e)
+
+-- the entry behind entry i of a row does
+abbrev pub brokenAt : ℕ → List ℕ → ℕ → Bool
+brokenAt n row i = breaks n (getD row i 0) (getD row (i + 1) 0)
+
+-- as a number
+unfoldable pub faultOf : ℕ → ℕ → ℕ → ℕ
+faultOf n before e = cond (breaks n before e) 1 0
 
 -- the joins of a row's first entry if it is of rank 0, or 0
 unfoldable pub frontJoins : List ℕ → ℕ

@@ -1,40 +1,71 @@
-// Sound rows: count at most W, strictly rising ranks below the bound, joins below n. Each row is read once; its unused
-// places are not looked at.
+// Sound rows: count at most W, strictly rising ranks below the bound, joins below n. The unused places of a row
+// are not looked at.
 ghost use mathlib.Core.Path.{_≡_};
 ghost use mathlib.Core.Bool.{not};
-ghost use Prim.Native.Nat.{_<_};
+ghost use Prim.Native.Nat.{_-_, _≤_, _<_};
 ghost use lib.ListN.{length};
-ghost use Rattle.basics.specs.Places.{first, some};
+ghost use Rattle.basics.specs.Places.{count, first, some};
+ghost use Rattle.refusal.specs.Sizes.{mostFrames, mostWidth};
 ghost use Rattle.rows.specs.Rooms.{faultyEntry, soundRow, unsound};
-ghost use Rattle.rows.specs.Inner.{Rooms};
+ghost use Rattle.rows.specs.Inner.{Rooms, brokenAt, faultOf};
 use crate::cut::cut;
 use entry::Entry;
 use entry::joins_of;
 use entry::rank_of;
 
-// Whether no entry of a row's used part is faulty. `floor` is one more than the rank before, 0 at the first entry. Ranks
-// rise, so that only the last is held against the bound.
+// 1 where an entry breaks the rule behind the one before it, 0 where it does not.
+pub fn fault(n: u32, before: Entry, e: Entry) -> u32
+    ensures { λ r. ⌜ r ≡ faultOf n before e ⌝ }
+{
+    if rank_of(e) <= rank_of(before) {
+        return 1;
+    }
+    if n as usize <= joins_of(e) {
+        return 1;
+    }
+    0
+}
+
+// How many entries break the rule behind the one before them. No turn leaves the loop, so that several are held to it at once.
+pub fn faults(n: u32, row: &[Entry]) -> u32
+    requires { ⌜ (0 < length (now row)) × (length (now row) ≤ mostWidth) ⌝ }
+    ensures { λ r. ⌜
+        r ≡ count (brokenAt n (now (row .entry))) (length (now (row .entry)) - 1)
+        ⌝ }
+{
+    let end = row.len() - 1;
+    let mut found: u32 = 0;
+    let mut at: usize = 0;
+    while at < end {
+        let next = at + 1;
+        let before = row[at];
+        let e = row[next];
+        found += fault(n, before, e);
+        at = next;
+    }
+    found
+}
+
+// Whether no entry of a row's used part is faulty. Ranks rise, so that only the last is held against the bound.
 pub fn sound_part(n: usize, bound: usize, row: &[Entry]) -> bool
+    requires { ⌜ (n ≤ mostFrames) × (length (now row) ≤ mostWidth) ⌝ }
     ensures { λ r. ⌜
         r ≡ not (some (faultyEntry n bound (now (row .entry))) 0 (length (now (row .entry))))
         ⌝ }
 {
-    let mut floor: usize = 0;
-    let mut at: usize = 0;
-    while at < row.len() {
-        let e = row[at];
-        let rank = rank_of(e);
-        let joins = joins_of(e);
-        if rank < floor {
-            return false;
-        }
-        if n <= joins {
-            return false;
-        }
-        floor = rank + 1;
-        at += 1;
+    if row.len() == 0 {
+        return true;
     }
-    floor <= bound
+    let first = row[0];
+    if n <= joins_of(first) {
+        return false;
+    }
+    if 0 < faults(n as u32, row) {
+        return false;
+    }
+    let end = row.len() - 1;
+    let last = row[end];
+    rank_of(last) < bound
 }
 
 // Whether row v is sound.

@@ -14,6 +14,8 @@ pub mod SameLinks
 pub mod SameListing
 pub mod SameRefusal
 pub mod SameRows
+pub mod SameTargets
 pub mod Sample
 pub mod Starred
+pub mod Targets
 pub mod Trips

@@ -1,3 +1,4 @@
 pub mod Demands
 pub mod EndToEnd
 pub mod Starred
+pub mod Targets

@@ -1,7 +1,7 @@
 // The papers once more, as plainly as can be and sharing nothing with the library: breadth-first counts, the row rule read off
 // all distances, bits in a list. Slow, and meant to be.
 
-use seam::Refusal;
+use seam::{Refusal, Target};
 
 pub type Verdict = Result<(), Refusal>;
 
@@ -213,6 +213,70 @@ pub fn spread(n: usize, w: usize, labels: &[u32], counts: &[u32]) -> Result<usiz
     rows_test(n, n, w, labels, counts)?;
     let used = (0..n).flat_map(|v| labels[v * w..v * w + counts[v] as usize].iter());
     Ok(used.filter(|&&e| e / 65_536 == 0).map(|&e| 2 * (e % 65_536) as usize).max().unwrap_or(0))
+}
+
+// ---- the targets
+
+fn target_sizes(n: usize, w: usize, targets: &[Target]) -> Verdict {
+    sizes(n, Some(w), None, None)?;
+    if targets.len() <= 16 { Ok(()) } else { Err(Refusal::Size) }
+}
+
+fn target_frames(n: usize, targets: &[Target]) -> Verdict {
+    let outside = targets.iter().position(|t| t.frame as usize >= n);
+    outside.map_or(Ok(()), |i| Err(Refusal::Frame(i + 1)))
+}
+
+// The pair question's answer for a frame and each target.
+fn joins_to(
+    n: usize, w: usize, labels: &[u32], counts: &[u32], v: usize, targets: &[Target],
+) -> Result<Vec<Option<usize>>, Refusal> {
+    targets.iter().map(|t| pair(n, w, labels, counts, v, t.frame as usize)).collect()
+}
+
+// The fewest joins of these, where any are known, and the first place that has them.
+pub fn fewest(joins: &[Option<usize>]) -> Option<(usize, usize)> {
+    let fewest = joins.iter().filter_map(|&j| j).min()?;
+    joins.iter().position(|&j| j == Some(fewest)).map(|place| (fewest, place))
+}
+
+// Frames counted by the joins to their nearest target; 15 takes 15 and more.
+pub fn tallied(nearest: impl Iterator<Item = Option<usize>>) -> [u64; 16] {
+    let joins: Vec<usize> = nearest.flatten().collect();
+    let mut sixteen = [0; 16];
+    for i in 0..15 {
+        sixteen[i] = joins.iter().filter(|&&j| j == i).count() as u64;
+    }
+    sixteen[15] = joins.iter().filter(|&&j| j >= 15).count() as u64;
+    sixteen
+}
+
+pub fn nearest(
+    n: usize, w: usize, labels: &[u32], counts: &[u32], asked: usize, targets: &[Target],
+) -> Result<Option<usize>, Refusal> {
+    target_sizes(n, w, targets)?;
+    room_tests(n, w, labels, counts)?;
+    if asked >= n {
+        return Err(Refusal::Frame(0));
+    }
+    target_frames(n, targets)?;
+    row_test(n, n, w, labels, counts, asked)?;
+    targets.iter().try_for_each(|t| row_test(n, n, w, labels, counts, t.frame as usize))?;
+    let joins = joins_to(n, w, labels, counts, asked, targets)?;
+    Ok(fewest(&joins).map(|(_, place)| place))
+}
+
+pub fn sixteen(n: usize, w: usize, labels: &[u32], counts: &[u32], targets: &[Target]) -> Result<[u64; 16], Refusal> {
+    target_sizes(n, w, targets)?;
+    room_tests(n, w, labels, counts)?;
+    target_frames(n, targets)?;
+    rows_test(n, n, w, labels, counts)?;
+    let mut nearest = vec![];
+    for v in 0..n {
+        let joins = joins_to(n, w, labels, counts, v, targets)?;
+        nearest.push(fewest(&joins).map(|(joins, _)| joins));
+    }
+    Ok(tallied(nearest.into_iter()))
 }
 
 // ---- the file, as a list of bits

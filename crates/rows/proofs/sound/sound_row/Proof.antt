@@ -5,10 +5,11 @@ use mathlib.Core.Bool.{not}
 use mathlib.Core.List.{List}
 use native.Mathlib.Omega.{arith}
 use borrow.Author.Needs.{needs}
-use lib.ListN.{length}
+use lib.ListN.{length, getD}
+use denote.Ref.{now}
 use Rattle.basics.specs.Places.{some}
 use Rattle.rows.specs.Rooms.{faultyEntry, rowAt}
-use Rattle.rows.proofs.Laws.{row-ends}
+use Rattle.rows.proofs.Laws.{row-ends, length-part}
 use Rattle.rows.proofs.RoomLaws.{count-unsound, sound-by-entries}
 use Rattle.rows.proofs.sound.sound_row.Statement.{statement}
 use Rattle.rows.proofs.sound.sound_row.Tie as tie
@@ -31,7 +32,13 @@ cut-requires c κs =
     omega (arith, row-ends {c = s .args .w} (s .pre .0 .places) (s .pre .1) (omega arith), c .if1 .left)
 
 sound-part-requires : tie.Need-sound-part-requires
-sound-part-requires c κs = search needs
+sound-part-requires c κs =
+    let s = c .before .before .before .before .before in
+    let rooms = s .pre .0 in
+    let narrow = c .before .if1 .left in (
+      rooms .sizes .frames,
+      omega (arith, ap length (c .cut .ensures .0), length-part (s .args .w) (now (s .args .labels)) (s .args .v) (getD (now (s .args .counts)) (s .args .v) 0) (s .pre .1) narrow (rooms .places), rooms .sizes .width, narrow),
+    )
 
 returns-2 : tie.Need-returns-2
 unfolding rowAt

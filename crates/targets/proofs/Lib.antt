@@ -1,0 +1,9 @@
+pub mod ByRank
+pub mod Depends
+pub mod Listed
+pub mod Literal
+pub mod Named
+pub mod NearestLaws
+pub mod SameTargets
+pub mod SixteenLaws
+pub mod TestLaws

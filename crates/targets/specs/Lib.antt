@@ -1,0 +1,4 @@
+pub mod Inner
+pub mod Nearest
+pub mod Sixteen
+pub mod Targets
