@@ -13,6 +13,8 @@
                        uint32_t *met, size_t ml, uint32_t *queue, size_t ul, uint64_t *entries); \
     uint32_t p##_pair(size_t n, size_t w, const uint32_t *labels, size_t ll, const uint32_t *counts, size_t cl, size_t s, \
                       size_t t, uint32_t *found, uint64_t *joins); \
+    uint32_t p##_within(size_t n, size_t w, const uint32_t *labels, size_t ll, const uint32_t *counts, size_t cl, size_t s, \
+                        size_t t, size_t limit, uint32_t *yes); \
     uint32_t p##_spread(size_t n, size_t w, const uint32_t *labels, size_t ll, const uint32_t *counts, size_t cl, uint64_t *spread); \
     uint32_t p##_nearest(size_t n, size_t w, const uint32_t *labels, size_t ll, const uint32_t *counts, size_t cl, size_t asked, \
                          const seam_target *targets, size_t tl, uint32_t *found, uint64_t *target); \

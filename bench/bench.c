@@ -331,6 +331,38 @@ static uint32_t time_build(uint64_t *place) {
     return bad[0];
 }
 
+/* The pairs once more, each with a limit: half its answer, its answer, and 0. A pair without an answer takes the number of its second
+ * frame for one. */
+static void run_within(const char *block) {
+    static const char *names[3] = {"within half the answer (20,000)", "within the answer (20,000)", "within 0 (20,000)"};
+    static uint64_t answer[20000];
+    static uint32_t has[20000];
+    static size_t limit[20000];
+    uint64_t place, sum[3] = {0, 0, 0};
+    uint32_t yes[3];
+    for (int i = 0; i < 20000; i++)
+        must(!c_pair(N, W, labels[0], N * W, counts[0], N, ask_s[i], ask_t[i], &has[i], &answer[i]), "pair in C");
+    for (int which = 0; which < 3; which++) {
+        for (int i = 0; i < 20000; i++) {
+            size_t whole = has[i] ? answer[i] : ask_t[i];
+            limit[i] = which == 0 ? whole / 2 : which == 1 ? whole : 0;
+        }
+#define ASK_WITHIN(x, call) for (int i = 0; i < 20000; i++) { call; sum[x] += yes[x]; }
+        ROW_OF(names[which], 1,
+               ASK_WITHIN(0, seam_within(N, W, labels[0], N * W, counts[0], N, ask_s[i], ask_t[i], limit[i], &yes[0], &place)),
+               ASK_WITHIN(1, c_within(N, W, labels[0], N * W, counts[0], N, ask_s[i], ask_t[i], limit[i], &yes[1])),
+               ASK_WITHIN(2, r_within(N, W, labels[0], N * W, counts[0], N, ask_s[i], ask_t[i], limit[i], &yes[2])));
+        must(sum[0] == sum[1] && sum[1] == sum[2], "sums of replies differ");
+        for (int i = 0; i < 20000; i++) {
+            must(!seam_within(N, W, labels[0], N * W, counts[0], N, ask_s[i], ask_t[i], limit[i], &yes[0], &place), "within");
+            must(!c_within(N, W, labels[0], N * W, counts[0], N, ask_s[i], ask_t[i], limit[i], &yes[1]), "within in C");
+            must(!r_within(N, W, labels[0], N * W, counts[0], N, ask_s[i], ask_t[i], limit[i], &yes[2]), "within in Rust");
+            must(yes[0] == yes[1] && yes[1] == yes[2], "replies differ");
+            must(yes[0] == (has[i] && answer[i] <= limit[i]), "a reply is not that of the pair");
+        }
+    }
+}
+
 /* The targets are the first second frames of the pairs, the asked frames the first frames. */
 static void run_nearest(const char *block) {
     uint64_t place, target[3], sum[3] = {0, 0, 0};
@@ -417,6 +449,7 @@ static void run(const char *block) {
         search_block = block;
     }
     printf("| %s | pair beside a search (400 pairs, %ld joins in all) | %s | %.0f times as fast | |\n", block, apart, span(per_pair), faster);
+    run_within(block);
     run_nearest(block);
     run_sixteen(block);
     ROW_OF("spread", 20, bad[0] = seam_spread(N, W, labels[0], N * W, counts[0], N, &sp[0], &place),

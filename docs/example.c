@@ -1,5 +1,5 @@
-/* The chain 0-1-2-3 through the C interface: order by degree, a build that is refused and one that is not, one question, the nearest of
- * two targets, one row, the file written, its header read, and the file read back.
+/* The chain 0-1-2-3 through the C interface: order by degree, a build that is refused and one that is not, one question, the same with a
+ * limit, the nearest of two targets, one row, the file written, its header read, and the file read back.
  *
  *   rt staticlib capi
  *   gcc -Wall -Wextra -std=c11 -I crates/capi docs/example.c target/staticlib/libcapi.a -o example && ./example
@@ -29,7 +29,7 @@ static int refused(const char *call, uint32_t number, const uint64_t *place)
 int main(void)
 {
     uint64_t place, entries, joins, target, start, count, bytes, n, k;
-    uint32_t found, number;
+    uint32_t found, yes, number;
 
     if (refused("order", seam_order_by_degree(FRAMES, starts, FRAMES + 1, places, PLACES, order, FRAMES, &place), &place))
         return 1;
@@ -59,6 +59,11 @@ int main(void)
         printf("0 to 3: %llu joins\n", (unsigned long long)joins);
     else
         printf("0 to 3: none\n");
+
+    /* Where only a limit matters. */
+    if (refused("within", seam_within(FRAMES, WIDTH, labels, FRAMES * WIDTH, counts, FRAMES, 0, 3, 2, &yes, &place), &place))
+        return 1;
+    printf("0 to 3 within 2 joins: %s\n", yes ? "yes" : "no");
 
     /* A target's place in the list comes back; its mark is for the caller alone. */
     if (refused("nearest",

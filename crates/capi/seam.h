@@ -52,7 +52,7 @@
  * this tree is compiled: at most 34 KiB for seam_build, seam_order_by_degree and seam_order_scattered, 18 for seam_check_links, 10 for
  * seam_nearest and seam_sixteen, 6 for seam_check_order, seam_write and seam_read; of each, 1 KiB is allowed for memset and memcpy of the
  * C library, the only functions called outside the archive, and where these are bound late, the loader takes its own besides at their
- * first call. The others call nothing and take less than 1 KiB.
+ * first call. The others call nothing outside the archive and take less than 1 KiB.
  */
 #ifndef SEAM_H
 #define SEAM_H
@@ -130,6 +130,12 @@ uint32_t seam_build(size_t n, size_t w, size_t k, const uint32_t *starts, size_t
  * chain. Read from the two rows alone, as the least sum of joins over ranks in both. SIZE, LENGTH, FRAME, ROW for s, ROW for t. */
 uint32_t seam_pair(size_t n, size_t w, const uint32_t *labels, size_t labels_len, const uint32_t *counts, size_t counts_len,
                    size_t s, size_t t, uint32_t *found, uint64_t *joins, uint64_t *place);
+
+/* Whether seam_pair has an answer for s and t and it is at most limit: *yes 1, else 0. limit is any number; a limit of 2 n or more
+ * asks whether there is an answer at all. The walk along the two rows stops at the first rank in both whose sum of joins is at most
+ * limit, but both rows are tested whole before it, as for seam_pair: SIZE, LENGTH, FRAME, ROW for s, ROW for t. */
+uint32_t seam_within(size_t n, size_t w, const uint32_t *labels, size_t labels_len, const uint32_t *counts, size_t counts_len,
+                     size_t s, size_t t, size_t limit, uint32_t *yes, uint64_t *place);
 
 /* Tests the row of v: SIZE, LENGTH, FRAME, ROW. */
 uint32_t seam_check_row(size_t n, size_t w, const uint32_t *labels, size_t labels_len, const uint32_t *counts,

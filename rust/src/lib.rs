@@ -111,6 +111,10 @@ extern "C" {
         n: usize, w: usize, labels: Room, ll: usize, counts: Room, cl: usize, s: usize, t: usize,
         found: *mut u32, joins: *mut u64, place: *mut u64,
     ) -> u32;
+    fn seam_within(
+        n: usize, w: usize, labels: Room, ll: usize, counts: Room, cl: usize, s: usize, t: usize, limit: usize,
+        yes: *mut u32, place: *mut u64,
+    ) -> u32;
     fn seam_check_row(n: usize, w: usize, labels: Room, ll: usize, counts: Room, cl: usize, v: usize, place: *mut u64) -> u32;
     fn seam_row(
         n: usize, w: usize, labels: Room, ll: usize, counts: Room, cl: usize, v: usize,
@@ -222,6 +226,19 @@ impl<'a> Rows<'a> {
         assert!(found <= 1);
         assert!(found == 1 || joins == 0, "none with a number of joins");
         told(number, place, &[joins, if number == 0 { 0 } else { found as u64 }], (found == 1).then_some(joins as usize))
+    }
+
+    /// Whether `pair` has an answer for s and t and it is at most the limit, which is any number.
+    pub fn within(&self, s: usize, t: usize, limit: usize) -> Result<bool, Refusal> {
+        let (mut yes, mut place) = (7u32, UNWRITTEN);
+        let number = unsafe {
+            seam_within(
+                self.n, self.w, self.labels.as_ptr(), self.labels.len(), self.counts.as_ptr(), self.counts.len(), s, t, limit,
+                &mut yes, &mut place,
+            )
+        };
+        assert!(yes <= 1);
+        told(number, place, &[if number == 0 { 0 } else { yes as u64 }], yes == 1)
     }
 
     pub fn check_row(&self, v: usize) -> Result<(), Refusal> {

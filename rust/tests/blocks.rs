@@ -290,6 +290,9 @@ fn questions(dice: &mut Dice, block: &Block, w: usize, k: usize, order: &[u32], 
             if k == n {
                 assert_eq!(answer, d[s][t]);
             }
+            for limit in limits_about(answer) {
+                assert_eq!(rows.within(s, t, limit), Ok(answer.map_or(false, |joins| joins <= limit)), "{answer:?} within {limit}");
+            }
             answers[s][t] = answer;
         }
         assert_eq!(rows.row(s).unwrap(), &index.labels[s * w..s * w + index.counts[s] as usize]);
@@ -327,7 +330,11 @@ fn questions(dice: &mut Dice, block: &Block, w: usize, k: usize, order: &[u32], 
     let rows = Rows { n: asked, w: width, labels: &labels, counts: &counts };
     for _ in 0..20 {
         let (s, t) = (dice.below(n + 2), dice.below(n + 2));
-        assert_eq!(rows.pair(s, t), model::pair(asked, width, &labels, &counts, s, t));
+        let answer = model::pair(asked, width, &labels, &counts, s, t);
+        assert_eq!(rows.pair(s, t), answer);
+        for limit in limits_about(answer.unwrap_or(None)) {
+            assert_eq!(rows.within(s, t, limit), model::within(asked, width, &labels, &counts, s, t, limit), "within {limit}");
+        }
         let check = model::check_row(asked, width, &labels, &counts, s);
         assert_eq!(rows.check_row(s), check);
         let row = check.map(|_| &labels[s * width..s * width + counts[s] as usize]);
@@ -336,6 +343,13 @@ fn questions(dice: &mut Dice, block: &Block, w: usize, k: usize, order: &[u32], 
     assert_eq!(rows.spread(), model::spread(asked, width, &labels, &counts));
     damaged_targets(dice, n, &rows, seen);
     files(dice, asked, width, k, &order, &labels, &counts);
+}
+
+// Limits on both sides of an answer, or of 15 joins where there is none; two entries' joins add up to less than 131,071, and 2^32
+// is 0 in 32 bits.
+fn limits_about(answer: Option<usize>) -> [usize; 9] {
+    let joins = answer.unwrap_or(15);
+    [0, joins / 2, joins.saturating_sub(1), joins, joins + 1, 131_071, 131_072, 1 << 32, usize::MAX]
 }
 
 // What the lists of targets came to: frames with more than one nearest, without any, and 15 or more joins away; refusals.
@@ -583,6 +597,7 @@ fn limits() {
     assert_eq!(labels[4095], 4095);
     let rows = Rows { n: 4096, w: 1, labels: &labels, counts: &counts };
     assert_eq!(rows.pair(4095, 4095), Ok(Some(8190)));
+    assert_eq!((rows.within(4095, 4095, 8189), rows.within(4095, 4095, 8190)), (Ok(false), Ok(true)));
     assert_eq!(rows.spread(), Ok(8190));
     // Its last frame as a target is 4,095 joins from the first frame and 8,190 from itself; 16 targets are taken, 17 are not.
     let at = |frame: u32| Target { frame, mark: frame };
@@ -621,6 +636,11 @@ fn survey_deck() {
     let mut nearest = vec![];
     for v in 0..n {
         let joins: Vec<Option<usize>> = from.iter().map(|d| d[v]).collect();
+        for (t, truly) in list.iter().zip(joins.iter().flatten()) {
+            for limit in [0, truly / 2, truly.saturating_sub(1), *truly, 40] {
+                assert_eq!(rows.within(v, t.frame as usize, limit), Ok(*truly <= limit));
+            }
+        }
         let (fewest, place) = model::fewest(&joins).unwrap();
         assert_eq!(rows.nearest(v, &list), Ok(Some(place)));
         nearest.push(Some(fewest));
@@ -666,6 +686,7 @@ fn by_hand() {
     let rows = Rows { n: 4, w: 3, labels: &labels, counts: &counts };
     assert_eq!(rows.pair(0, 3), Ok(Some(3)));
     assert_eq!(rows.spread(), Ok(4));
+    within_by_hand(&labels, &counts);
     targets_by_hand(&labels, &counts);
     let mut out = vec![0; 39];
     assert_eq!(rows.write(4, &order, &mut out, 0), Ok(39));
@@ -679,6 +700,7 @@ fn by_hand() {
     assert_eq!(built, Ok(4));
     let rows = Rows { n: 4, w: 3, labels: &labels, counts: &counts };
     assert_eq!((rows.pair(0, 0), rows.pair(2, 3)), (Ok(Some(2)), Ok(Some(3))));
+    assert_eq!((rows.within(0, 0, 1), rows.within(0, 0, 2)), (Ok(false), Ok(true)));
     // Frame 0 is no hub yet: 2 joins from itself, as far as from frame 2.
     let own = [Target { frame: 2, mark: 0 }, Target { frame: 0, mark: 0 }];
     assert_eq!(rows.nearest(0, &own), Ok(Some(0)));
@@ -686,6 +708,7 @@ fn by_hand() {
     let (_, labels, counts) = build(&chain, 3, 0, &order);
     let rows = Rows { n: 4, w: 3, labels: &labels, counts: &counts };
     assert!((0..16).all(|p| rows.pair(p / 4, p % 4) == Ok(None)));
+    assert!((0..16).all(|p| rows.within(p / 4, p % 4, usize::MAX) == Ok(false)));
     assert_eq!((rows.nearest(0, &own), rows.sixteen(&own)), (Ok(None), Ok([0; 16])));
 
     let ring = Block::of(4, &[(0, 1), (1, 2), (2, 3), (3, 0)]);
@@ -701,6 +724,10 @@ fn by_hand() {
         let rows = Rows { n: 3, w: 3, labels: &labels, counts: &counts };
         assert_eq!(rows.pair(0, 2), Ok(None));
         assert_eq!(rows.pair(2, 2), Ok(own));
+        for limit in [0, 131_071, 131_072, 131_073, usize::MAX] {
+            assert_eq!(rows.within(0, 2, limit), Ok(false));
+            assert_eq!(rows.within(2, 2, limit), Ok(own.is_some()));
+        }
     }
 
     let alone = Block::of(1, &[]);
@@ -718,6 +745,34 @@ fn by_hand() {
     assert_eq!(seam::check_links(5, unsorted), Err(Refusal::Links(2)));
     assert_eq!(seam::check_links(1, Links { starts: &[0, 1], places: &[0] }), Err(Refusal::Links(0)));
     assert_eq!(seam::read(&[], 3, &mut [], &mut [], &mut []), Err(Refusal::Short(0)));
+}
+
+// Within so many joins on the chain 0-1-2-3, built to k = 4 with W = 3: answers, and each refusal before the next.
+fn within_by_hand(labels: &[u32], counts: &[u32]) {
+    let rows = Rows { n: 4, w: 3, labels, counts };
+    for s in 0..4_usize {
+        for t in 0..4 {
+            assert!((0..9).all(|limit| rows.within(s, t, limit) == Ok(s.abs_diff(t) <= limit)));
+        }
+    }
+    // 2 and 3 share rank 0 with the sum 3 and, behind it, rank 1 with the sum 1.
+    assert_eq!((rows.within(2, 3, 0), rows.within(2, 3, 1), rows.within(2, 3, 3)), (Ok(false), Ok(true), Ok(true)));
+
+    // The last entry of 0 and of 3 has a rank of n: with the larger limits the walk stops before it, the tests do not.
+    let mut bad = labels.to_vec();
+    bad[1] = 4 * 65_536;
+    bad[11] = 4 * 65_536;
+    let hurt = Rows { labels: &bad, ..rows };
+    let short = Rows { labels: &bad[1..], ..rows };
+    for limit in [0, 1, 3, 4, usize::MAX] {
+        assert_eq!(Rows { w: 0, ..short }.within(9, 9, limit), Err(Refusal::Size));
+        assert_eq!(short.within(9, 9, limit), Err(Refusal::Length));
+        assert_eq!(hurt.within(4, 9, limit), Err(Refusal::Frame(0)));
+        assert_eq!(hurt.within(3, 4, limit), Err(Refusal::Frame(1)));
+        assert_eq!((hurt.within(0, 3, limit), hurt.within(3, 0, limit)), (Err(Refusal::Row(0)), Err(Refusal::Row(3))));
+        assert_eq!((hurt.within(2, 3, limit), hurt.within(3, 2, limit)), (Err(Refusal::Row(3)), Err(Refusal::Row(3))));
+        assert_eq!(hurt.within(1, 2, limit), Ok(limit > 0));
+    }
 }
 
 // Targets on the chain 0-1-2-3, built to k = 4 with W = 3: answers, and each refusal before the next.

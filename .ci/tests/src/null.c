@@ -24,7 +24,7 @@ static void poison(void)
 }
 
 /* Out values are written exactly where the call has them: A and B beside the place, FOUND of the pair question and of the nearest
- * target, the SIXTEEN counts. */
+ * target (and the yes of within), the SIXTEEN counts. */
 enum { A = 1, B = 2, FOUND = 4, SIXTEEN = 8 };
 
 static void tell(const char *call, uint32_t number, uint32_t want, uint64_t want_a, int outs)
@@ -89,6 +89,10 @@ int main(void)
     TRY(SEAM_SIZE, 0, A | FOUND, seam_pair(0, 1, NONE, NONE, 0, 0, &found, &a, &place));
     TRY(SEAM_LENGTH, 0, A | FOUND, seam_pair(1, 1, NONE, ONE(count), 0, 0, &found, &a, &place));
     TRY(SEAM_LENGTH, 0, A | FOUND, seam_pair(1, 1, ONE(label), NONE, 0, 0, &found, &a, &place));
+
+    TRY(SEAM_SIZE, 0, FOUND, seam_within(0, 1, NONE, NONE, 0, 0, 0, &found, &place));
+    TRY(SEAM_LENGTH, 0, FOUND, seam_within(1, 1, NONE, ONE(count), 0, 0, 0, &found, &place));
+    TRY(SEAM_LENGTH, 0, FOUND, seam_within(1, 1, ONE(label), NONE, 0, 0, 0, &found, &place));
 
     TRY(SEAM_SIZE, 0, 0, seam_check_row(0, 1, NONE, NONE, 0, &place));
     TRY(SEAM_LENGTH, 0, 0, seam_check_row(1, 1, NONE, ONE(count), 0, &place));

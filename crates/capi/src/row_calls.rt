@@ -6,12 +6,14 @@ ghost use Rattle.rows.specs.Rooms.{checkRow};
 ghost use Rattle.rows.specs.Lookup.{rowTold};
 ghost use Rattle.rows.specs.Pair.{pairOf, pairTold};
 ghost use Rattle.rows.specs.Spread.{spreadOf, spreadTold};
+ghost use Rattle.rows.specs.Within.{withinOf, withinTold};
 ghost use Rattle.capi.specs.Outs.{tells};
 use crate::tell::told;
 use entry::Entry;
 use refusal::Verdict;
 use rows::pair::Answer;
 use rows::spread::SpreadAnswer;
+use rows::within::WithinAnswer;
 
 // The pair question: `found` is 1 with the joins, 0 with 0 for none.
 #[no_mangle]
@@ -127,6 +129,43 @@ pub extern "C" fn seam_spread(
         }
         SpreadAnswer::Refused(r) => {
             *spread = 0;
+            *place = r.place as u64;
+            r.number
+        }
+    }
+}
+
+// Within so many joins: `yes` is 1 or 0.
+#[no_mangle]
+pub extern "C" fn seam_within(
+    n: usize,
+    w: usize,
+    labels: &[Entry],
+    counts: &[u32],
+    s: usize,
+    t: usize,
+    limit: usize,
+    yes: &mut u32,
+    place: &mut u64,
+) -> u32
+    ensures { λ r. ⌜
+        tells r (now (place .exit)) (now (yes .exit) ∷ [])
+        ≡ withinTold (withinOf n w (now (labels .entry)) (now (counts .entry)) s t limit)
+        ⌝ }
+{
+    match rows::within::within(n, w, labels, counts, s, t, limit) {
+        WithinAnswer::Yes => {
+            *yes = 1;
+            *place = 0;
+            0
+        }
+        WithinAnswer::No => {
+            *yes = 0;
+            *place = 0;
+            0
+        }
+        WithinAnswer::Refused(r) => {
+            *yes = 0;
             *place = r.place as u64;
             r.number
         }

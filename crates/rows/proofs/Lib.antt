@@ -8,3 +8,4 @@ pub mod PairDepends
 pub mod PairLaws
 pub mod RoomLaws
 pub mod SpreadLaws
+pub mod WithinLaws

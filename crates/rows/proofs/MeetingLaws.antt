@@ -54,11 +54,11 @@ take-both e f a b p h k =
     let rest : meetings a (f ∷ b) ≡ meetings a b = pass-right a f b k in
     λ i. one i ++ rest i
 
-none-left : (b : List ℕ) → meetings [] b ≡ []
+pub none-left : (b : List ℕ) → meetings [] b ≡ []
 unfolding meetings
 none-left b = refl
 
-none-right : (a : List ℕ) → meetings a [] ≡ []
+pub none-right : (a : List ℕ) → meetings a [] ≡ []
 unfolding meetings meetingsAt
 none-right [] = refl
 none-right (e ∷ a) = none-right a
@@ -83,21 +83,21 @@ above-next {row} rise j i k =
 
 module _ (a b : List ℕ) (i j : ℕ) (h : i < length a) (k : j < length b) where
   -- the first row's rank is the lower: its entry meets nothing
-  step-left : Rises b → rankOf (getD a i 0) < rankOf (getD b j 0)
+  pub step-left : Rises b → rankOf (getD a i 0) < rankOf (getD b j 0)
       → meetings (drop i a) (drop j b) ≡ meetings (drop (i + 1) a) (drop j b)
   step-left rise l =
       rw (add-one, drop-cons a i 0 h)
       (pass-left (getD a i 0) (drop (suc i) a) (drop j b) (above-from rise (rankOf (getD a i 0)) j l))
 
   -- the second row's rank is the lower
-  step-right : Rises a → rankOf (getD b j 0) < rankOf (getD a i 0)
+  pub step-right : Rises a → rankOf (getD b j 0) < rankOf (getD a i 0)
       → meetings (drop i a) (drop j b) ≡ meetings (drop i a) (drop (j + 1) b)
   step-right rise l =
       rw (add-one, drop-cons b j 0 k)
       (pass-right (drop i a) (getD b j 0) (drop (suc j) b) (above-from rise (rankOf (getD b j 0)) i l))
 
   -- one rank in both: one meeting
-  step-both : Rises a → Rises b → rankOf (getD a i 0) ≡ rankOf (getD b j 0)
+  pub step-both : Rises a → Rises b → rankOf (getD a i 0) ≡ rankOf (getD b j 0)
       → meetings (drop i a) (drop j b) ≡ meeting (getD a i 0) (getD b j 0) ∷ meetings (drop (i + 1) a) (drop (j + 1) b)
   step-both up rise e =
       rw (add-one i, add-one j, drop-cons a i 0 h, drop-cons b j 0 k)
@@ -107,11 +107,11 @@ module _ (a b : List ℕ) (i j : ℕ) (h : i < length a) (k : j < length b) wher
 
 -- ---- one turn
 
-past : (r o : ℕ) → r ≤ o → pastBy r o ≡ 1
+pub past : (r o : ℕ) → r ≤ o → pastBy r o ≡ 1
 unfolding pastBy
 past r o h = cond-true _ _ (le-leb r o h)
 
-stays : (r o : ℕ) → o < r → pastBy r o ≡ 0
+pub stays : (r o : ℕ) → o < r → pastBy r o ≡ 0
 unfolding pastBy
 stays r o h = cond-false _ _ (lt-leb r o h)
 

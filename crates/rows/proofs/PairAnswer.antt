@@ -117,7 +117,7 @@ data Below (B : ℕ) : Best → Type 0 where
   nowhere : Below B Nowhere
   meet : {m : Meeting} → m .sum < B → Below B (Meet m)
 
-data AllBelow (B : ℕ) : List Meeting → Type 0 where
+pub data AllBelow (B : ℕ) : List Meeting → Type 0 where
   no-more : AllBelow B []
   one-more : {m : Meeting} {ms : List Meeting} → m .sum < B → AllBelow B ms → AllBelow B (m ∷ ms)
 
@@ -136,7 +136,7 @@ all-at B n e (f ∷ b) h k small =
     (λ q. rw q (one-more {m = meeting e f} (omega (arith, small zero (omega arith))) rest))
     (λ q. rw q rest)
 
-all-below : (B n : ℕ) (a b : List ℕ) → n + n ≤ B → ((i : ℕ) → i < length a → joinsOf (getD a i 0) < n)
+pub all-below : (B n : ℕ) (a b : List ℕ) → n + n ≤ B → ((i : ℕ) → i < length a → joinsOf (getD a i 0) < n)
     → ((i : ℕ) → i < length b → joinsOf (getD b i 0) < n) → AllBelow B (meetings a b)
 unfolding meetings
 all-below B n [] b h small also = no-more
@@ -149,7 +149,7 @@ value : ℕ → Best → ℕ
 value B Nowhere = B
 value B (Meet m) = m .sum
 
-before-sum : (m k : Meeting) → goesBefore m k ≡ true → m .sum ≤ k .sum
+pub before-sum : (m k : Meeting) → goesBefore m k ≡ true → m .sum ≤ k .sum
 unfolding goesBefore
 before-sum m k e =
     cases (either-true (ltb (m .sum) (k .sum)) _ e)
@@ -158,7 +158,7 @@ before-sum m k e =
     let p : (eqb (m .sum) (k .sum) ≡ true) × (ltb (m .rank) (k .rank) ≡ true) = both-true _ _ t in
     omega (arith, eqb-true (m .sum) (k .sum) (p .0)))
 
-not-before-sum : (m k : Meeting) → goesBefore m k ≡ false → k .sum ≤ m .sum
+pub not-before-sum : (m k : Meeting) → goesBefore m k ≡ false → k .sum ≤ m .sum
 unfolding goesBefore
 not-before-sum m k e = ltb-false (m .sum) (k .sum) (either-false (ltb (m .sum) (k .sum)) _ e .0)
 

@@ -1,8 +1,8 @@
 -- What inner functions, of this crate and of those above it, ask of each other and promise: rooms that fit, a row that lies in
 -- its room, rooms that hold given rows, and one turn of the merge.
-use Prim.Native.Nat.{ℕ, _+_, _*_, _≤_, _<_}
+use Prim.Native.Nat.{ℕ, _+_, _-_, _*_, _≤_, _<_}
 use mathlib.Core.Path.{_≡_}
-use mathlib.Core.Bool.{Bool, cond, _||_}
+use mathlib.Core.Bool.{Bool, true, false, cond, _||_}
 use mathlib.Core.List.{List, [], _∷_}
 use lib.ListN.{length, getD}
 use lib.Dec.{eqb, leb, ltb}
@@ -81,3 +81,16 @@ lesserBy least m = cond (ltb (m .sum) (least .sum)) m least
 -- the least found, or nowhere
 unfoldable pub bestOf : Meeting → Best
 bestOf least = cond (ltb (least .sum) noSum) (Meet least) Nowhere
+
+-- ---- the walk that stops early
+
+-- some meeting has a sum of at most the limit
+unfoldable pub someWithin : ℕ → List Meeting → Bool
+someWithin limit [] = false
+someWithin limit (m ∷ ms) =
+    let rest : Bool = someWithin limit ms in
+    cond (leb (m .sum) limit) true rest
+
+-- a limit below `noSum`: above every sum it makes no difference
+unfoldable pub clippedTo : ℕ → ℕ
+clippedTo limit = cond (ltb limit noSum) limit (noSum - 1)

@@ -5,3 +5,4 @@ pub mod Meetings
 pub mod Pair
 pub mod Rooms
 pub mod Spread
+pub mod Within

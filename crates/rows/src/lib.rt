@@ -1,4 +1,5 @@
-// Rows and the questions asked of them: sound rows, the pair question, the row check and lookup, and the spread.
+// Rows and the questions asked of them: sound rows, the pair question and within so many joins, the row check and lookup, and the
+// spread.
 mod asked;
 pub mod check;
 mod cut;
@@ -10,3 +11,4 @@ pub mod part;
 pub mod rooms;
 mod sound;
 pub mod spread;
+pub mod within;

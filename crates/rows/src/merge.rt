@@ -11,7 +11,7 @@ use entry::joins_of;
 use entry::rank_of;
 
 // Above every sum of the joins of two entries: no meeting.
-const NO_SUM: usize = 2 * entry::RANK_STEP_WIDE;
+pub const NO_SUM: usize = 2 * entry::RANK_STEP_WIDE;
 
 // A rank that is in both rows, and the sum of its joins.
 pub struct Meeting {
@@ -26,7 +26,7 @@ pub enum Best {
 }
 
 // The sum where the two ranks are one.
-fn at_rank(rank: usize, other: usize, sum: usize) -> usize
+pub fn at_rank(rank: usize, other: usize, sum: usize) -> usize
     ensures { λ r. ⌜ r ≡ atRank rank other sum ⌝ }
 {
     if rank == other {
@@ -36,7 +36,7 @@ fn at_rank(rank: usize, other: usize, sum: usize) -> usize
 }
 
 // How far a row goes on: past an entry whose rank is not above the other row's.
-fn step_past(rank: usize, other: usize) -> usize
+pub fn step_past(rank: usize, other: usize) -> usize
     ensures { λ r. ⌜ r ≡ pastBy rank other ⌝ }
 {
     if rank <= other {

@@ -19,3 +19,4 @@ pub mod Sample
 pub mod Starred
 pub mod Targets
 pub mod Trips
+pub mod Within

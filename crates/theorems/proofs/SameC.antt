@@ -25,6 +25,8 @@ use Rattle.capi.proofs.row_calls.seam_row.Kinds as seam-row-kinds
 use Rattle.capi.proofs.row_calls.seam_row.Reads as seam-row-reads
 use Rattle.capi.proofs.row_calls.seam_spread.Kinds as seam-spread-kinds
 use Rattle.capi.proofs.row_calls.seam_spread.Reads as seam-spread-reads
+use Rattle.capi.proofs.row_calls.seam_within.Kinds as seam-within-kinds
+use Rattle.capi.proofs.row_calls.seam_within.Reads as seam-within-reads
 use Rattle.capi.proofs.file_calls.seam_write.Kinds as seam-write-kinds
 use Rattle.capi.proofs.file_calls.seam_write.Reads as seam-write-reads
 use Rattle.capi.proofs.file_calls.seam_header.Kinds as seam-header-kinds
@@ -102,6 +104,12 @@ pub seam-spread-same : Same 4 seam-spread-kinds.ps seam-spread-kinds.r seam-spre
     × (now (s₁ .1 .1 .1 .1 .1 .0) ≡ now (s₂ .1 .1 .1 .1 .1 .0))
     × (now (s₁ .1 .1 .1 .1 .0) ≡ now (s₂ .1 .1 .1 .1 .0)))
 seam-spread-same κs a r₁ r₂ s₁ s₂ p q = (both number p q, both place p q, both (value 0) p q)
+
+pub seam-within-same : Same 4 seam-within-kinds.ps seam-within-kinds.r seam-within-reads.Post
+    (λ κs r₁ r₂ s₁ s₂. (r₁ ≡ r₂)
+    × (now (s₁ .1 .1 .1 .1 .1 .1 .1 .1 .0) ≡ now (s₂ .1 .1 .1 .1 .1 .1 .1 .1 .0))
+    × (now (s₁ .1 .1 .1 .1 .1 .1 .1 .0) ≡ now (s₂ .1 .1 .1 .1 .1 .1 .1 .0)))
+seam-within-same κs a r₁ r₂ s₁ s₂ p q = (both number p q, both place p q, both (value 0) p q)
 
 pub seam-write-same : Same 6 seam-write-kinds.ps seam-write-kinds.r seam-write-reads.Post
     (λ κs r₁ r₂ s₁ s₂. (r₁ ≡ r₂)

@@ -20,6 +20,8 @@ use Rattle.rows.proofs.lookup.row.Kinds as row-kinds
 use Rattle.rows.proofs.lookup.row.Reads as row-reads
 use Rattle.rows.proofs.spread.spread.Kinds as spread-kinds
 use Rattle.rows.proofs.spread.spread.Reads as spread-reads
+use Rattle.rows.proofs.within.within.Kinds as within-kinds
+use Rattle.rows.proofs.within.within.Reads as within-reads
 use Rattle.rows.proofs.rooms.check_rooms.Kinds as check-rooms-kinds
 use Rattle.rows.proofs.rooms.check_rooms.Reads as check-rooms-reads
 use Rattle.rows.proofs.rooms.total.Kinds as total-kinds
@@ -60,3 +62,6 @@ row-same κs a r₁ r₂ s₁ s₂ p q = (p .0 ∙ sym (q .0), p .1 ∙ sym (q .
 
 pub spread-same : SameAnswer 2 spread-kinds.ps spread-kinds.r spread-reads.Post
 spread-same κs a r₁ r₂ s₁ s₂ p q = p .0 ∙ sym (q .0)
+
+pub within-same : SameAnswer 2 within-kinds.ps within-kinds.r within-reads.Post
+within-same κs a r₁ r₂ s₁ s₂ p q = p .0 ∙ sym (q .0)

@@ -2,3 +2,4 @@ pub mod Demands
 pub mod EndToEnd
 pub mod Starred
 pub mod Targets
+pub mod Within

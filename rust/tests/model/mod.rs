@@ -200,6 +200,13 @@ pub fn pair(n: usize, w: usize, labels: &[u32], counts: &[u32], s: usize, t: usi
     Ok(best)
 }
 
+pub fn within(
+    n: usize, w: usize, labels: &[u32], counts: &[u32], s: usize, t: usize, limit: usize,
+) -> Result<bool, Refusal> {
+    let answer = pair(n, w, labels, counts, s, t)?;
+    Ok(answer.map_or(false, |joins| joins <= limit))
+}
+
 pub fn check_row(n: usize, w: usize, labels: &[u32], counts: &[u32], v: usize) -> Verdict {
     room_tests(n, w, labels, counts)?;
     if v >= n {
