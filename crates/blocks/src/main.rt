@@ -3,6 +3,8 @@
 // marks, distances from a search that knows nothing of rows, the least sum over the hubs is kept for every pair, and the row
 // rule is applied to these. It prints how many blocks, builds, entries and pairs were compared, and `all equal` or the
 // first difference.
+#![tactic(auto)]
+
 mod compare;
 mod draw;
 mod due;

@@ -1,4 +1,6 @@
 // The build: walks in rank order from empty rows.
+#![tactic(auto)]
+
 ghost use Rattle.std.specs.Prelude.{◌≡◌};
 ghost use Rattle.build.specs.Build.{build_outcome, build_of};
 

@@ -6,6 +6,8 @@
 //
 // Most frames have three or four links, and an order by degree is then nearly the frames' own: rows grow to 186 entries, and
 // a build with 32 is refused with ROOM. Scattered, the longest row has 27.
+#![tactic(auto)]
+
 use build::Built;
 use file::Written;
 use refusal::Verdict;

@@ -1,4 +1,6 @@
 // The entry's layout, rank * 65,536 + joins: no other crate takes an entry apart.
+#![tactic(auto)]
+
 ghost use Rattle.std.specs.Prelude.{◌≡◌};
 ghost use Rattle.entry.specs.Entry.{rank_of, joins_of, entry_of};
 

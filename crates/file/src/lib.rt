@@ -1,4 +1,6 @@
 // The index file: bit-packed fields, most significant first.
+#![tactic(auto)]
+
 mod rooms;
 mod writer;
 

@@ -1,4 +1,6 @@
 // Links and hub order: the tests that stand before everything (1 to 5), the order by degree and the order scattered.
+#![tactic(auto)]
+
 ghost use Rattle.std.specs.Prelude.{◌≡◌};
 ghost use Rattle.refusal.specs.Told.{verdict_told};
 ghost use Rattle.links.specs.Links.{check_links};

@@ -3,6 +3,8 @@
 // `listing` makes the whole text from a file's bytes, and its contract says what the text is. `list` only reads and writes. A
 // read that fails counts as the input's end, so that what was read is judged: a file that is cut is refused. A write that
 // fails ends the listing.
+#![tactic(auto)]
+
 ghost use Rattle.std.specs.Prelude.{◌≡◌, ◌*◌, length};
 ghost use Rattle.io.specs.Counts.{IsPrefixLen};
 ghost use Rattle.listing.specs.Listing.{listing_of, listed_in};

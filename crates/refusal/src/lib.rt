@@ -1,5 +1,7 @@
 // The refusal, as a value: a number and a place, 0 where none is named. The numbers 1 to 14 of the paper stand here and
 // in specs/Numbers.antt, and nowhere else in this code and its definitions; the C header and the Rust binding name them too.
+#![tactic(auto)]
+
 pub mod sizes;
 
 ghost use Rattle.std.specs.Prelude.{◌≡◌};

@@ -1,5 +1,7 @@
 // Rows and the questions asked of them: sound rows, the pair question and within so many joins, the row check and lookup, and the
 // spread.
+#![tactic(auto)]
+
 mod asked;
 pub mod check;
 mod cut;

@@ -4,8 +4,8 @@ use Rattle.refusal.proofs.refused.Kinds as refused-kinds
 use Rattle.refusal.proofs.refused.Reads as refused-reads
 use Rattle.refusal.proofs.sizes.frames_fit.Kinds as frames-fit-kinds
 use Rattle.refusal.proofs.sizes.frames_fit.Reads as frames-fit-reads
-use Rattle.refusal.proofs.sizes.width_fits_lem.Kinds as width-fits-kinds
-use Rattle.refusal.proofs.sizes.width_fits_lem.Reads as width-fits-reads
+use Rattle.refusal.proofs.sizes.width_fits.Kinds as width-fits-kinds
+use Rattle.refusal.proofs.sizes.width_fits.Reads as width-fits-reads
 use Rattle.refusal.proofs.sizes.places_fit.Kinds as places-fit-kinds
 use Rattle.refusal.proofs.sizes.places_fit.Reads as places-fit-reads
 use Rattle.refusal.proofs.sizes.sizes_fit.Kinds as sizes-fit-kinds

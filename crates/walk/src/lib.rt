@@ -1,6 +1,8 @@
 // One hub's walk: it first finds every frame that it meets, then decides, and only then stores. So either the whole walk
 // is made or rows and counts stay; the work rooms are 0 and the notes as they were either way. An inner crate: only the
 // build calls it, behind its own tests, so that `walk` asks for what they showed and tests nothing again.
+#![tactic(auto)]
+
 ghost use Rattle.std.specs.Prelude.{◌≡◌, length};
 ghost use Rattle.walk.specs.Inner.{WalkIn, WalkOut};
 

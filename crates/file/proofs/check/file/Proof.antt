@@ -24,11 +24,11 @@ closed-requires c κs = search rules
 returns : tie.Need-returns
 returns c =
     c.closed.ensures
-    ∙ opened_refused _ _ (size_refused _ _ _ _ _ (sym c.before.before.width_fits_lem.ensures ∙ not-true _ c.before.if1.true))
+    ∙ opened_refused _ _ (size_refused _ _ _ _ _ (sym c.before.before.width_fits.ensures ∙ not-true _ c.before.if1.true))
 
 -- the width fits
 sized : (c : tie.Else1) → width_fits c.before.before.before.args.w ≡ true
-sized c = sym c.before.width_fits_lem.ensures ∙ not-false _ c.if1.false
+sized c = sym c.before.width_fits.ensures ∙ not-false _ c.if1.false
 
 header-requires : tie.Need-header-requires
 header-requires c κs = search rules

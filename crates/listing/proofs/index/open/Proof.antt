@@ -32,7 +32,7 @@ returns c =
     let m = c.before.before.before in
     let answer = m.before.before.enum_told.given.1 in
     let call = m.before.before.before.before.header in (
-      put_as (refused_text_lem m.number_of_lem.ensures answer ∙ header_refused _ call.ensures.0 answer) r.ensures.0,
+      put_as (refused_text_lem m.number_of.ensures answer ∙ header_refused _ call.ensures.0 answer) r.ensures.0,
       omega (arith, r.ensures.1),
     )
 

@@ -42,7 +42,7 @@ returns c =
     let m = c.before.before.before in
     let answer = m.before.before.enum_told.given.1 in
     let call = m.before.before.before.before.before.before.before.before.before.before.read in (
-      put_as (refused_text_lem m.number_of_lem.ensures answer ∙ read_found _ _ _ _ call.ensures.0 answer) r.ensures.0,
+      put_as (refused_text_lem m.number_of.ensures answer ∙ read_found _ _ _ _ call.ensures.0 answer) r.ensures.0,
       omega (arith, r.ensures.1),
     )
 
