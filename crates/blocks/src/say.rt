@@ -2,7 +2,7 @@
 use crate::due::Due;
 use crate::search::NONE;
 use build::Built;
-use libc::STDOUT_FILENO;
+
 use refusal::ROOM;
 use rows::pair::Answer;
 
