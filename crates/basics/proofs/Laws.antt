@@ -97,9 +97,9 @@ pub cond_ge : (b : Bool) {x y : ℕ} (m : ℕ) → m ≤ x → m ≤ y → m ≤
 cond_ge true m p q = p
 cond_ge false m p q = q
 
--- the same answer, and what is read off it
-pub read_off {ℓ} : {A B : Type ℓ} (f : A → B) {a b : A} → a ≡ b → (a ≡ b) × (f a ≡ f b)
-read_off f e = (e, ap f e)
+-- the same answer, and what is read off it, as the two clauses of a contract
+pub read_off {ℓ} : {A B : Type ℓ} (f : A → B) {a b : A} → a ≡ b → record { answer : a ≡ b; numbers : f a ≡ f b }
+read_off f e = record { answer = e; numbers = ap f e }
 
 -- ---- the first marked place
 

@@ -2,9 +2,11 @@
 use crate::due::Due;
 use crate::search::NONE;
 use build::Built;
-
 use refusal::ROOM;
 use rows::pair::Answer;
+
+// Standard output, by its descriptor.
+const STDOUT_FILENO: i32 = 1;
 
 pub fn text(words: &[u8]) {
     io::write_all(STDOUT_FILENO, words);

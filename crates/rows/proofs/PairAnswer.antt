@@ -182,7 +182,7 @@ unfolding least_from lowest
 least_below {B} {best} p no_more = (p, omega (arith, value_most p))
 least_below {B} {best} p (one_more {m = m} {ms = ms} h q) =
     let (small, one) = lesser_below m p h in
-    let (all, rest) = least_below small q in
+    let (all, rest) = least_below {best = lesser_of best m} small q in
     (all, rest ∙ ap (λ (k : ℕ). min k (lowest B ms)) one ∙ omega arith)
 
 -- a best meeting as a count: its sum where that is below B, none where there is none

@@ -1,6 +1,5 @@
 -- `links::block_tests` meets its contract: at each return the tests that led there say which test decides.
 use mathlib.Core.Path.{sym, ◌∙◌}
-use borrow.Author.Tests.{not-true, not-false}
 use Rattle.refusal.proofs.Laws.{test_fine, test_refused, after_fine, after_refused}
 use Rattle.links.proofs.Links.{sizes_held}
 use Rattle.links.proofs.block_tests.Goals as goal
@@ -12,7 +11,7 @@ pub returns-then-not-long : goal.returns-then-not-long
 returns-then-not-long c = c.refused.ensures
     ∙ sym
     (after_fine _ (sym c.tests-fits.ensures ∙ c.in-Fine.is)
-    ∙ after_refused _ (test_refused _ _ (not-true _ c.if-not-long.true)))
+    ∙ after_refused _ (test_refused _ _ (c.if-not-long.true)))
 
 pub tests-requires : goal.tests-requires
 tests-requires c = sizes_held _ _ _ (sym c.tests-fits.ensures ∙ c.in-Fine.is)
@@ -21,4 +20,4 @@ pub returns : goal.returns
 returns c = c.tests.ensures
     ∙ sym
     (after_fine _ (sym c.tests-fits.ensures ∙ c.in-Fine.is)
-    ∙ after_fine _ (test_fine _ _ (not-false _ c.if-not-long.false)))
+    ∙ after_fine _ (test_fine _ _ (c.if-not-long.false)))

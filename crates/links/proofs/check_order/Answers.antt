@@ -1,6 +1,6 @@
 -- `links::check_order` meets its contract: at each return the tests that led there say which test of `check_order` decides.
-use Rattle.std.proofs.Common.{ap}
 use mathlib.Core.Path.{sym, ◌∙◌}
+use Rattle.basics.proofs.Laws.{read_off}
 use Rattle.refusal.specs.Told.{verdict_told}
 use Rattle.refusal.proofs.SizeLaws.{frames_held}
 use Rattle.links.proofs.Order.{order_alone, order_unfit, order_length}
@@ -11,10 +11,12 @@ each_once-requires c = ((frames_held _ (sym c.frames_fit.ensures ∙ c.if-frames
 
 pub returns-then-order-n : goal.returns-then-order-n
 returns-then-order-n c = let (one, most) = frames_held _ (sym c.frames_fit.ensures ∙ c.if-frames_fit.true) in
-    record { answer = (c.each_once.ensures ∙ sym (order_alone _ _ one most c.if-order-n.true)); numbers = ap verdict_told ((c.each_once.ensures ∙ sym (order_alone _ _ one most c.if-order-n.true))) }
+    read_off verdict_told (c.each_once.ensures ∙ sym (order_alone _ _ one most c.if-order-n.true))
 
 pub returns-then-frames_fit : goal.returns-then-frames_fit
-returns-then-frames_fit c = record { answer = (c.refused.ensures ∙ sym (order_length _ _ (sym c.frames_fit.ensures ∙ c.if-frames_fit.true) c.if-order-n.false)); numbers = ap verdict_told ((c.refused.ensures ∙ sym (order_length _ _ (sym c.frames_fit.ensures ∙ c.if-frames_fit.true) c.if-order-n.false))) }
+returns-then-frames_fit c = read_off verdict_told
+    (c.refused.ensures ∙ sym (order_length _ _ (sym c.frames_fit.ensures ∙ c.if-frames_fit.true) c.if-order-n.false))
 
 pub returns : goal.returns
-returns c = record { answer = (c.refused-2.ensures ∙ sym (order_unfit _ _ (sym c.frames_fit.ensures ∙ c.if-frames_fit.false))); numbers = ap verdict_told ((c.refused-2.ensures ∙ sym (order_unfit _ _ (sym c.frames_fit.ensures ∙ c.if-frames_fit.false)))) }
+returns c = read_off verdict_told
+    (c.refused-2.ensures ∙ sym (order_unfit _ _ (sym c.frames_fit.ensures ∙ c.if-frames_fit.false)))

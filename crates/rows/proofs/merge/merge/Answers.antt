@@ -23,13 +23,13 @@ pub returns-then-b-j : goal.returns-then-b-j
 returns-then-b-j c = c.best_of.ensures ∙ merged_end c.loop-i.invariant.2 (inr (omega arith))
 
 pub overflow_add-joins_of : goal.overflow_add-joins_of
-overflow_add-joins_of c =     omega (
-      arith,
-      c.joins_of-in-loop-i.ensures,
-      c.joins_of.ensures,
-      joins_small (get_or c.args.a.now c.loop-i.i 0),
-      joins_small (get_or c.args.b.now c.loop-i.j 0),
-    )
+overflow_add-joins_of c = omega (
+  arith,
+  c.joins_of-in-loop-i.ensures,
+  c.joins_of.ensures,
+  joins_small (get_or c.args.a.now c.loop-i.i 0),
+  joins_small (get_or c.args.b.now c.loop-i.j 0),
+)
 
 pub overflow_add-i : goal.overflow_add-i
 overflow_add-i c = omega (arith, c.step_past-i.ensures, past_most c.rank_of-rank.result c.rank_of-other.result)
@@ -41,20 +41,20 @@ pub loop-i-smaller : goal.loop-i-smaller
 loop-i-smaller c = omega (arith, c.step_past-j.ensures, c.step_past-i.ensures, past_some c.rank_of-rank.result c.rank_of-other.result)
 
 pub loop-i-preserved : goal.loop-i-preserved
-loop-i-preserved c =     (
-      omega (arith, c.step_past-i.ensures, past_most c.rank_of-rank.result c.rank_of-other.result),
-      omega (arith, c.step_past-j.ensures, past_most c.rank_of-other.result c.rank_of-rank.result),
-      again c.loop-i.i c.loop-i.j (merged_on c.loop-i.invariant.2 c.requires.0 c.requires.1 (omega arith) (omega arith))
-          (c.lesser-least.ensures
-          ∙ (λ x.
-          lesser_by c.loop-i.least
-          record {
-            c.rank_of-rank = c.rank_of-rank.ensures x;
-            c.at_rank-sum.ensures = (c.at_rank-sum.ensures ∙ (λ y. at_rank (c.rank_of-rank.ensures y) (c.rank_of-other.ensures y) (c.joins_of.ensures y + c.joins_of-in-loop-i.ensures y))) x;
-          }))
-          (c.step_past-i.ensures ∙ (λ x. past_by (c.rank_of-rank.ensures x) (c.rank_of-other.ensures x)))
-          (c.step_past-j.ensures ∙ (λ x. past_by (c.rank_of-other.ensures x) (c.rank_of-rank.ensures x))),
-    )
+loop-i-preserved c = (
+  omega (arith, c.step_past-i.ensures, past_most c.rank_of-rank.result c.rank_of-other.result),
+  omega (arith, c.step_past-j.ensures, past_most c.rank_of-other.result c.rank_of-rank.result),
+  again c.loop-i.i c.loop-i.j (merged_on c.loop-i.invariant.2 c.requires.0 c.requires.1 (omega arith) (omega arith))
+      (c.lesser-least.ensures
+      ∙ (λ x.
+      lesser_by c.loop-i.least
+      record {
+        rank = c.rank_of-rank.ensures x;
+        sum = (c.at_rank-sum.ensures ∙ (λ y. at_rank (c.rank_of-rank.ensures y) (c.rank_of-other.ensures y) (c.joins_of.ensures y + c.joins_of-in-loop-i.ensures y))) x;
+      }))
+      (c.step_past-i.ensures ∙ (λ x. past_by (c.rank_of-rank.ensures x) (c.rank_of-other.ensures x)))
+      (c.step_past-j.ensures ∙ (λ x. past_by (c.rank_of-other.ensures x) (c.rank_of-rank.ensures x))),
+)
 
 pub returns : goal.returns
 returns c = c.best_of-2.ensures ∙ merged_end c.loop-i.invariant.2 (inl (omega arith))

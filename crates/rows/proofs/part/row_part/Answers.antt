@@ -1,7 +1,6 @@
 -- Where the test fails the part is empty and lies at the front, and where it holds it is the row's own.
 use Prim.Native.Nat.{ℕ, ◌+◌, ◌*◌}
 use mathlib.Core.Path.{sym, ap, ◌∙◌}
-use borrow.Author.Tests.{not-true, not-false}
 use Rattle.basics.proofs.Laws.{cond_true, cond_false}
 use Rattle.entry.specs.Entry.{entry_bytes}
 use Rattle.rows.specs.Rooms.{part_of, part_start}
@@ -10,11 +9,13 @@ use Rattle.rows.proofs.part.row_part.Goals as goal
 
 pub returns-then-not-lies : goal.returns-then-not-lies
 unfolding part_of part_start
-returns-then-not-lies c = record { entries = (let e = sym c.in_room-lies.ensures ∙ not-true _ c.if-not-lies.true in (sym (cond_false _ _ e), ap (λ (k : ℕ). (c.args.labels.ref_ptr.0, k * entry_bytes + c.args.labels.ref_ptr.1)) (sym (cond_false _ _ e)))).0; lies = (let e = sym c.in_room-lies.ensures ∙ not-true _ c.if-not-lies.true in (sym (cond_false _ _ e), ap (λ (k : ℕ). (c.args.labels.ref_ptr.0, k * entry_bytes + c.args.labels.ref_ptr.1)) (sym (cond_false _ _ e)))).1 }
+returns-then-not-lies c = let e = sym c.in_room-lies.ensures ∙ c.if-not-lies.true in
+    record { entries = sym (cond_false _ _ e); lies = ap (λ (k : ℕ). (c.args.labels.ref_ptr.0, k * entry_bytes + c.args.labels.ref_ptr.1)) (sym (cond_false _ _ e)) }
 
 pub cut-requires : goal.cut-requires
-cut-requires c = (room_held _ _ _ _ (sym c.in_room-lies.ensures ∙ not-false _ c.if-not-lies.false)).2
+cut-requires c = (room_held _ _ _ _ (sym c.in_room-lies.ensures ∙ c.if-not-lies.false)).2
 
 pub returns : goal.returns
 unfolding part_of part_start
-returns c = record { entries = (let e = sym c.in_room-lies.ensures ∙ not-false _ c.if-not-lies.false in (c.cut.ensures.entries ∙ sym (cond_true _ _ e), c.cut.ensures.lies ∙ ap (λ (k : ℕ). (c.args.labels.ref_ptr.0, k * entry_bytes + c.args.labels.ref_ptr.1)) (sym (cond_true _ _ e)))).0; lies = (let e = sym c.in_room-lies.ensures ∙ not-false _ c.if-not-lies.false in (c.cut.ensures.entries ∙ sym (cond_true _ _ e), c.cut.ensures.lies ∙ ap (λ (k : ℕ). (c.args.labels.ref_ptr.0, k * entry_bytes + c.args.labels.ref_ptr.1)) (sym (cond_true _ _ e)))).1 }
+returns c = let e = sym c.in_room-lies.ensures ∙ c.if-not-lies.false in
+    record { entries = c.cut.ensures.entries ∙ sym (cond_true _ _ e); lies = c.cut.ensures.lies ∙ ap (λ (k : ℕ). (c.args.labels.ref_ptr.0, k * entry_bytes + c.args.labels.ref_ptr.1)) (sym (cond_true _ _ e)) }

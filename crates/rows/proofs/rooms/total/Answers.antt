@@ -18,10 +18,10 @@ pub overflow_cast-count : goal.overflow_cast-count
 overflow_cast-count c = omega (arith, c.type_inv.counts c.loop-v.v)
 
 pub overflow_add-entries : goal.overflow_add-entries
-overflow_add-entries c = omega (arith, (let counts : List ℕ = c.args.counts.now in let i : c.loop-v.v < length counts = c.loop-v-test.true in (sum_from counts c.loop-v.v i, omega (arith, c.type_inv.counts c.loop-v.v), omega (arith, c.if-counts-gt-MOST_FRAMES.false))))
+overflow_add-entries c = omega (arith, sum_from c.args.counts.now c.loop-v.v c.loop-v-test.true, c.type_inv.counts c.loop-v.v, c.if-counts-gt-MOST_FRAMES.false)
 
 pub loop-v-preserved : goal.loop-v-preserved
-loop-v-preserved c = omega (arith, (let counts : List ℕ = c.args.counts.now in let i : c.loop-v.v < length counts = c.loop-v-test.true in (sum_from counts c.loop-v.v i, omega (arith, c.type_inv.counts c.loop-v.v), omega (arith, c.if-counts-gt-MOST_FRAMES.false))))
+loop-v-preserved c = omega (arith, sum_from c.args.counts.now c.loop-v.v c.loop-v-test.true, c.type_inv.counts c.loop-v.v, c.if-counts-gt-MOST_FRAMES.false)
 
 pub returns : goal.returns
 returns c = let counts : List ℕ = c.args.counts.now in

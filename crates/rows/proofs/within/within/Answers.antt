@@ -2,6 +2,7 @@
 use mathlib.Core.Path.{sym, ap, ◌∙◌}
 use Prim.Native.Nat.{ℕ}
 use native.Mathlib.Omega.{arith}
+use Rattle.basics.proofs.Laws.{read_off}
 use Rattle.rows.specs.Inner.{some_within}
 use Rattle.rows.specs.Meetings.{meetings}
 use Rattle.rows.specs.Rooms.{row_at}
@@ -11,7 +12,9 @@ use Rattle.rows.proofs.WithinLaws.{clip_low, within_refused, within_walked}
 use Rattle.rows.proofs.within.within.Goals as goal
 
 pub returns-in-Refused : goal.returns-in-Refused
-returns-in-Refused c = record { answer = (sym (within_refused c.args.n c.args.w c.args.labels.now c.args.counts.now c.args.s c.args.t c.args.limit (sym c.check_pair-asked.ensures ∙ c.in-Refused.is))); numbers = ap within_told ((sym (within_refused c.args.n c.args.w c.args.labels.now c.args.counts.now c.args.s c.args.t c.args.limit (sym c.check_pair-asked.ensures ∙ c.in-Refused.is)))) }
+returns-in-Refused c = read_off within_told (sym
+    (within_refused c.args.n c.args.w c.args.labels.now c.args.counts.now c.args.s c.args.t c.args.limit
+    (sym c.check_pair-asked.ensures ∙ c.in-Refused.is)))
 
 pub walk_rows-requires : goal.walk_rows-requires
 walk_rows-requires c = let asked = pair_asked c.args.n c.args.w c.args.labels.now c.args.counts.now c.args.s c.args.t ((sym c.check_pair-asked.ensures ∙ c.in_default.is)) in (
@@ -22,8 +25,12 @@ walk_rows-requires c = let asked = pair_asked c.args.n c.args.w c.args.labels.no
 
 pub returns-then-walk_rows : goal.returns-then-walk_rows
 returns-then-walk_rows c = let both = meetings (row_at c.args.w c.args.labels.now c.args.counts.now c.args.s) (row_at c.args.w c.args.labels.now c.args.counts.now c.args.t) in
-    record { answer = (sym (within_walked c.args.n c.args.w c.args.labels.now c.args.counts.now c.args.s c.args.t c.args.limit ((sym c.check_pair-asked.ensures ∙ c.in_default.is)) (sym c.if-walk_rows.true ∙ c.walk_rows.ensures ∙ ap (λ (limit : ℕ). some_within limit both) c.clipped.ensures))); numbers = ap within_told ((sym (within_walked c.args.n c.args.w c.args.labels.now c.args.counts.now c.args.s c.args.t c.args.limit ((sym c.check_pair-asked.ensures ∙ c.in_default.is)) (sym c.if-walk_rows.true ∙ c.walk_rows.ensures ∙ ap (λ (limit : ℕ). some_within limit both) c.clipped.ensures)))) }
+    read_off within_told (sym
+    (within_walked c.args.n c.args.w c.args.labels.now c.args.counts.now c.args.s c.args.t c.args.limit ((sym c.check_pair-asked.ensures ∙ c.in_default.is))
+    (sym c.if-walk_rows.true ∙ c.walk_rows.ensures ∙ ap (λ (limit : ℕ). some_within limit both) c.clipped.ensures)))
 
 pub returns : goal.returns
 returns c = let both = meetings (row_at c.args.w c.args.labels.now c.args.counts.now c.args.s) (row_at c.args.w c.args.labels.now c.args.counts.now c.args.t) in
-    record { answer = (sym (within_walked c.args.n c.args.w c.args.labels.now c.args.counts.now c.args.s c.args.t c.args.limit ((sym c.check_pair-asked.ensures ∙ c.in_default.is)) (sym c.if-walk_rows.false ∙ c.walk_rows.ensures ∙ ap (λ (limit : ℕ). some_within limit both) c.clipped.ensures))); numbers = ap within_told ((sym (within_walked c.args.n c.args.w c.args.labels.now c.args.counts.now c.args.s c.args.t c.args.limit ((sym c.check_pair-asked.ensures ∙ c.in_default.is)) (sym c.if-walk_rows.false ∙ c.walk_rows.ensures ∙ ap (λ (limit : ℕ). some_within limit both) c.clipped.ensures)))) }
+    read_off within_told (sym
+    (within_walked c.args.n c.args.w c.args.labels.now c.args.counts.now c.args.s c.args.t c.args.limit ((sym c.check_pair-asked.ensures ∙ c.in_default.is))
+    (sym c.if-walk_rows.false ∙ c.walk_rows.ensures ∙ ap (λ (limit : ℕ). some_within limit both) c.clipped.ensures)))
