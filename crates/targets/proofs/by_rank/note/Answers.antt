@@ -17,14 +17,14 @@ overflow_cast-joins c = omega (arith, c.joins_of-joins.ensures, joins_small (get
 
 pub offset_bounds-noted-rank : goal.offset_bounds-noted-rank
 offset_bounds-noted-rank c = omega
-    (arith, c.rank_of-rank.ensures, c.well-formed.1.0.1, c.requires.low c.loop-at.at c.loop-at-test.true, c.loop-at.invariant.0)
+    (arith, c.rank_of-rank.ensures, c.well_formed.1.0.1, c.requires.low c.loop-at.at c.loop-at-test.true, c.loop-at.invariant.0)
 
 pub bounds-noted-rank : goal.bounds-noted-rank
 bounds-noted-rank c = omega (arith, c.rank_of-rank.ensures, c.requires.low c.loop-at.at c.loop-at-test.true, c.loop-at.invariant.0)
 
 pub offset_bounds-noted-rank-then-joins-noted : goal.offset_bounds-noted-rank-then-joins-noted
 offset_bounds-noted-rank-then-joins-noted c = omega
-    (arith, c.rank_of-rank.ensures, c.well-formed.1.0.1, c.requires.low c.loop-at.at c.loop-at-test.true, c.loop-at.invariant.0)
+    (arith, c.rank_of-rank.ensures, c.well_formed.1.0.1, c.requires.low c.loop-at.at c.loop-at-test.true, c.loop-at.invariant.0)
 
 pub bounds-noted-rank-then-joins-noted : goal.bounds-noted-rank-then-joins-noted
 bounds-noted-rank-then-joins-noted c = omega (arith, c.rank_of-rank.ensures, c.requires.low c.loop-at.at c.loop-at-test.true, c.loop-at.invariant.0)

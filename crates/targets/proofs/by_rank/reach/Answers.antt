@@ -14,7 +14,7 @@ pub overflow_cast-joins : goal.overflow_cast-joins
 overflow_cast-joins c = omega (arith, c.joins_of-joins.ensures, joins_small (get_or c.args.row.now c.loop-at.at 0))
 
 pub offset_bounds-noted-rank : goal.offset_bounds-noted-rank
-offset_bounds-noted-rank c = omega (arith, c.rank_of-rank.ensures, c.well-formed.1.0.1, c.requires.0.low c.loop-at.at c.loop-at-test.true)
+offset_bounds-noted-rank c = omega (arith, c.rank_of-rank.ensures, c.well_formed.1.0.1, c.requires.0.low c.loop-at.at c.loop-at-test.true)
 
 pub bounds-noted-rank : goal.bounds-noted-rank
 bounds-noted-rank c = omega (arith, c.rank_of-rank.ensures, c.requires.0.low c.loop-at.at c.loop-at-test.true)
@@ -24,11 +24,11 @@ overflow_cast-sum c = omega (arith, c.type_inv.noted c.rank_of-rank.result)
 
 pub overflow_add-sum : goal.overflow_add-sum
 overflow_add-sum c = omega (
-      arith,
-      c.joins_of-joins.ensures,
-      joins_small (get_or c.args.row.now c.loop-at.at 0),
-      c.type_inv.noted c.rank_of-rank.result,
-    )
+  arith,
+  c.joins_of-joins.ensures,
+  joins_small (get_or c.args.row.now c.loop-at.at 0),
+  c.type_inv.noted c.rank_of-rank.result,
+)
 
 pub loop-at-preserved : goal.loop-at-preserved
 loop-at-preserved c = let there = ap (λ (r : ℕ). get_or c.args.noted.now r 0) c.rank_of-rank.ensures in

@@ -5,7 +5,7 @@ use mathlib.Core.Logic.{⊎_elim}
 use native.Mathlib.Omega.{arith}
 use lib.ListN.{get_or}
 use Rattle.rows.specs.Rooms.{row_at}
-use Rattle.targets.specs.Inner.{RanksIn, RowKnown, reach_of}
+use Rattle.targets.specs.Inner.{RanksIn, RowKnown, reach_of, reach_to}
 use Rattle.targets.proofs.ByRank.{part_known}
 use Rattle.targets.proofs.NearestLaws.{fewest_none, fewest_less, fewest_kept, reached_record, reached_none}
 use Rattle.targets.proofs.nearest.first_reached.Goals as goal
@@ -46,8 +46,9 @@ pub reach-joins-requires : goal.reach-joins-requires
 reach-joins-requires c = (subst (RanksIn _) (sym (row c)) (known c).ranks, c.requires.low)
 
 pub loop-i-preserved : goal.loop-i-preserved
-loop-i-preserved c = let e = (c.reach-joins.ensures ∙ ap (reach_of _) (row c)) in
-    (
+unfolding reach_to
+loop-i-preserved c = let joins : c.reach-joins.result ≡ reach_to c.args.w c.args.labels.now c.args.counts.now c.args.frames.now c.args.noted.now c.loop-i.i = c.reach-joins.ensures ∙ ap (reach_of _) (row c) in
+    let e = joins in (
       omega arith,
       ⊎_elim
           (λ w. fewest_less c.loop-i.invariant.1 (omega (arith, w.0.taken, e)) (w.1 ∙ e) w.2)

@@ -7,7 +7,7 @@ use Rattle.targets.proofs.NearestLaws.{Fewest}
 use Rattle.targets.proofs.nearest.first_reached.Given as goal
 
 abbrev pub invariant-loop-i : goal.invariant-loop-i
-invariant-loop-i l =     (l.i ≤ length l.frames) × Fewest (reach_to l.w l.labels l.counts l.frames l.noted) l.fewest l.place l.i
+invariant-loop-i l = (l.i ≤ length l.frames) × Fewest (reach_to l.w l.labels l.counts l.frames l.noted) l.fewest l.place l.i
 
 abbrev pub decreases-loop-i : goal.decreases-loop-i
 decreases-loop-i l = length l.frames - l.i

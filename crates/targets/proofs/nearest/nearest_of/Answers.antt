@@ -3,6 +3,7 @@
 use mathlib.Core.Path.{◌≡◌, sym, ◌∙◌}
 use native.Mathlib.Omega.{arith}
 use Rattle.refusal.specs.declared.Verdict.TheVariants.{Fine}
+use Rattle.rows.specs.Rooms.{row_at}
 use Rattle.targets.specs.Nearest.{nearest_tests}
 use Rattle.targets.proofs.NearestLaws.{asked_part, asked_ranks, asked_rows, nearest_reached, nearest_refused}
 use Rattle.targets.proofs.TestLaws.{NearestAsked, nearest_asked}
@@ -34,11 +35,13 @@ pub overflow_cast-counts : goal.overflow_cast-counts
 overflow_cast-counts c = omega (arith, c.type_inv.counts c.args.asked)
 
 pub note-requires : goal.note-requires
-note-requires c = asked_ranks (asked c) ((c.row_part.ensures.entries ∙ asked_part (asked c)))
+note-requires c = let row : c.row_part.result.now ≡ row_at c.args.w c.args.labels.now c.args.counts.now c.args.asked = c.row_part.ensures.entries ∙ asked_part (asked c) in
+    asked_ranks (asked c) (row)
 
 pub first_reached-requires : goal.first_reached-requires
 first_reached-requires c = asked_rows (asked c) _ c.note.ensures
 
 pub returns : goal.returns
-returns c = c.first_reached.ensures
-    ∙ nearest_reached _ _ _ _ _ _ (fine c) ((c.row_part.ensures.entries ∙ asked_part (asked c))) c.note.ensures
+returns c = let row : c.row_part.result.now ≡ row_at c.args.w c.args.labels.now c.args.counts.now c.args.asked = c.row_part.ensures.entries ∙ asked_part (asked c) in
+    c.first_reached.ensures
+    ∙ nearest_reached _ _ _ _ _ _ (fine c) (row) c.note.ensures

@@ -22,11 +22,11 @@ raise-requires c = raise_in c.args.w c.args.labels.now c.args.counts.now c.args.
 
 pub loop-v-preserved : goal.loop-v-preserved
 loop-v-preserved c = (
-      omega arith,
-      reached_turn c.args.w c.args.labels.now c.args.counts.now c.args.noted.now c.loop-v.v
-          (c.requires.0.rows c.loop-v.v c.loop-v-test.true) c.loop-v.invariant.1 c.row_part-row.ensures.entries
-          c.reach-joins.ensures c.raise.ensures,
-    )
+  omega arith,
+  reached_turn c.args.w c.args.labels.now c.args.counts.now c.args.noted.now c.loop-v.v
+      (c.requires.0.rows c.loop-v.v c.loop-v-test.true) c.loop-v.invariant.1 c.row_part-row.ensures.entries
+      c.reach-joins.ensures c.raise.ensures,
+)
 
 pub shape_of-sixteen : goal.shape_of-sixteen
 shape_of-sixteen c = (raise_in c.args.w c.args.labels.now c.args.counts.now c.args.noted.now c.loop-v.v

@@ -6,7 +6,7 @@ use Rattle.targets.specs.Inner.{reached_counts}
 use Rattle.targets.proofs.sixteen.count_all.Given as goal
 
 abbrev pub invariant-loop-v : goal.invariant-loop-v
-invariant-loop-v l =     (l.v ≤ length l.counts) × (l.sixteen ≡ reached_counts l.w l.labels l.counts l.noted l.v)
+invariant-loop-v l = (l.v ≤ length l.counts) × (l.sixteen ≡ reached_counts l.w l.labels l.counts l.noted l.v)
 
 abbrev pub decreases-loop-v : goal.decreases-loop-v
 decreases-loop-v l = length l.counts - l.v

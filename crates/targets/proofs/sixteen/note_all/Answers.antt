@@ -13,7 +13,7 @@ pub overflow_cast-frame : goal.overflow_cast-frame
 overflow_cast-frame c = omega (arith, c.type_inv.frames c.loop-i.i)
 
 pub offset_bounds-counts-frame : goal.offset_bounds-counts-frame
-offset_bounds-counts-frame c = omega (arith, (c.requires.rows c.loop-i.i c.loop-i-test.true).row.counted, c.well-formed.1.1.0.1)
+offset_bounds-counts-frame c = omega (arith, (c.requires.rows c.loop-i.i c.loop-i-test.true).row.counted, c.well_formed.1.1.0.1)
 
 pub bounds-counts-frame : goal.bounds-counts-frame
 bounds-counts-frame c = (c.requires.rows c.loop-i.i c.loop-i-test.true).row.counted

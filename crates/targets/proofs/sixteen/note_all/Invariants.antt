@@ -7,7 +7,7 @@ use Rattle.targets.specs.Inner.{noted_rows}
 use Rattle.targets.proofs.sixteen.note_all.Given as goal
 
 abbrev pub invariant-loop-i : goal.invariant-loop-i
-invariant-loop-i l =     (length l.noted ≡ length l.initial.noted)
+invariant-loop-i l = (length l.noted ≡ length l.initial.noted)
     × (noted_rows l.w l.labels l.counts (drop l.i l.frames) l.noted ≡ noted_rows l.w l.labels l.counts l.frames l.initial.noted)
 
 abbrev pub decreases-loop-i : goal.decreases-loop-i

@@ -23,13 +23,13 @@ returns-in_default c = let (rooms, frames) = c.requires in
 
 pub loop-i-preserved : goal.loop-i-preserved
 loop-i-preserved c = let (rooms, frames) = c.requires in (
-      omega arith,
-      tests_on _ _ _ c.loop-i-test.true
-          (sym (row_left rooms (frames.low _ c.loop-i-test.true))
-          ∙ sym c.check_row-row.ensures.answer
-          ∙ c.in-Fine.is)
-          ∙ c.loop-i.invariant.1,
-    )
+  omega arith,
+  tests_on _ _ _ c.loop-i-test.true
+      (sym (row_left rooms (frames.low _ c.loop-i-test.true))
+      ∙ sym c.check_row-row.ensures.answer
+      ∙ c.in-Fine.is)
+      ∙ c.loop-i.invariant.1,
+)
 
 pub returns : goal.returns
 returns c = sym (tests_end _ _ _ c.loop-i-test.false) ∙ c.loop-i.invariant.1

@@ -8,7 +8,7 @@ use Rattle.targets.proofs.TestLaws.{record_row}
 use Rattle.targets.proofs.tests.check_record_rows.Given as goal
 
 abbrev pub invariant-loop-i : goal.invariant-loop-i
-invariant-loop-i l =     (l.i ≤ length l.frames)
+invariant-loop-i l = (l.i ≤ length l.frames)
     × (tests_from (record_row l.n l.w l.labels l.counts l.frames) l.i (length l.frames - l.i)
     ≡ tests_from (record_row l.n l.w l.labels l.counts l.frames) 0 (length l.frames))
 

@@ -22,9 +22,9 @@ returns-then-n-frame c = c.refused.ensures
 
 pub loop-i-preserved : goal.loop-i-preserved
 loop-i-preserved c = (
-      omega arith,
-      tests_on _ _ _ c.loop-i-test.true (frame_fine _ c.if-n-frame.false) ∙ c.loop-i.invariant.1,
-    )
+  omega arith,
+  tests_on _ _ _ c.loop-i-test.true (frame_fine _ c.if-n-frame.false) ∙ c.loop-i.invariant.1,
+)
 
 pub returns : goal.returns
 returns c = sym (tests_end _ _ _ c.loop-i-test.false) ∙ c.loop-i.invariant.1

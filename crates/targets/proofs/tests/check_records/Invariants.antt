@@ -9,7 +9,7 @@ use Rattle.targets.proofs.TestLaws.{record_test}
 use Rattle.targets.proofs.tests.check_records.Given as goal
 
 abbrev pub invariant-loop-i : goal.invariant-loop-i
-invariant-loop-i l =     (l.i ≤ length l.frames) × (tests_from (record_test l.n l.frames) l.i (length l.frames - l.i) ≡ records_test l.n l.frames)
+invariant-loop-i l = (l.i ≤ length l.frames) × (tests_from (record_test l.n l.frames) l.i (length l.frames - l.i) ≡ records_test l.n l.frames)
 
 abbrev pub decreases-loop-i : goal.decreases-loop-i
 decreases-loop-i l = length l.frames - l.i
