@@ -51,8 +51,8 @@ module _ {n : ℕ} {S L : List ℕ} {drop : ℕ → ℕ → Bool} {hub : ℕ} {M
         f (omega arith) old)
         (λ q. g (other v q))
 
-    met_at : (v : ℕ) → met_at M' v ≡ met_at M v
-    met_at v = at-frame v (λ s o. omega (arith, not_over)) (λ s. omega arith)
+    met_at_lem : (v : ℕ) → met_at M' v ≡ met_at M v
+    met_at_lem v = at-frame v (λ s o. omega (arith, not_over)) (λ s. omega arith)
 
     stays : (v : ℕ) → 0 < get_or M v 0 → 0 < get_or M' v 0
     stays v m = at-frame v (λ s o. omega arith) (λ s. omega arith)
@@ -68,7 +68,7 @@ module _ {n : ℕ} {S L : List ℕ} {drop : ℕ → ℕ → Bool} {hub : ℕ} {M
         record {
           same = λ i q. same i (omega arith) (λ e. omega arith);
           stay = stays;
-          met_at = λ v m. met_at v;
+          met_at = λ v m. met_at_lem v;
           front = λ i q. refl;
         }
 
@@ -94,22 +94,22 @@ module _ {n : ℕ} {S L : List ℕ} {drop : ℕ → ℕ → Bool} {hub : ℕ} {M
           ahead = omega arith;
           some = b.some;
           first = b.first;
-          start = met_at hub ∙ b.start;
+          start = met_at_lem hub ∙ b.start;
           small = λ i p.
               by_cases (ℕ_discrete i head)
               (λ (q : i ≡ head). rw q (omega (arith, here, not_over)))
               (λ q. omega (arith, same i p q, b.small i p));
-          least = λ i p. omega (arith, met_at (get_or Q i 0), b.least i p);
-          rise = λ i j p q. omega (arith, met_at (get_or Q i 0), met_at (get_or Q j 0), b.rise i j p q);
+          least = λ i p. omega (arith, met_at_lem (get_or Q i 0), b.least i p);
+          rise = λ i j p q. omega (arith, met_at_lem (get_or Q i 0), met_at_lem (get_or Q j 0), b.rise i j p q);
           near = λ j p q.
               omega (
                 arith,
-                met_at (get_or Q j 0),
-                met_at (get_or Q (head + 1) 0),
+                met_at_lem (get_or Q j 0),
+                met_at_lem (get_or Q (head + 1) 0),
                 b.near j more q,
                 b.rise head (head + 1) (omega arith) p,
               );
-          short = λ j p. omega (arith, met_at (get_or Q j 0), b.short j p);
+          short = λ j p. omega (arith, met_at_lem (get_or Q j 0), b.short j p);
           plain = λ j p q. omega (arith, same j q (λ e. omega arith), b.plain j (omega arith) q);
           reason = λ j p.
               cases (b.reason j p) inl

@@ -41,15 +41,15 @@ module _ {n : ℕ} {S L : List ℕ} {drop : ℕ → ℕ → Bool} {hub : ℕ} {M
     few : mark + 1 ≤ 4097
     few = omega (arith, own, b.short head more, b.line.few, b.long)
 
-    met_at : (v : ℕ) → 0 < get_or M v 0 → met_at M' v ≡ met_at M v
-    met_at v m = ap (λ (k : ℕ). k % 65536) (g.old v m)
+    met_at_lem : (v : ℕ) → 0 < get_or M v 0 → met_at M' v ≡ met_at M v
+    met_at_lem v m = ap (λ (k : ℕ). k % 65536) (g.old v m)
 
     kept_carried : Carried M Q head M' Q'
     kept_carried =
         record {
           same = λ i p. old_met i (omega arith);
           stay = λ v m. omega (arith, g.old v m);
-          met_at = met_at;
+          met_at = met_at_lem;
           front = λ i p. g.front i (omega arith);
         }
 
@@ -66,14 +66,14 @@ module _ {n : ℕ} {S L : List ℕ} {drop : ℕ → ℕ → Bool} {hub : ℕ} {M
         (λ o.
         let (i, l, q) = b.line.all v (omega (arith, b.long)) o in
         let e : met_at M (get_or Q i 0) ≡ met_at M v = ap (met_at M) q in
-        omega (arith, met_at v o, b.near i more l, own))
+        omega (arith, met_at_lem v o, b.near i more l, own))
         (λ z.
         let (e, k) = g.new v (omega arith) m in
         omega (arith, few))
 
     own_kept : ((v : ℕ) → Link S L ones (get_or Q head 0) v 1 → v < n) → Kept S L drop M' (get_or Q head 0)
     own_kept low =
-        let at : met_at M' (get_or Q head 0) ≡ mark = met_at (get_or Q head 0) (b.line.is_met head more) ∙ own in
+        let at : met_at M' (get_or Q head 0) ≡ mark = met_at_lem (get_or Q head 0) (b.line.is_met head more) ∙ own in
         record {
           plain = omega (arith, old_met head more, is, few);
           free = ap (λ (l : ℕ). drop (get_or Q head 0) (l - 1)) at ∙ sym says ∙ free;
@@ -89,7 +89,7 @@ module _ {n : ℕ} {S L : List ℕ} {drop : ℕ → ℕ → Bool} {hub : ℕ} {M
           ahead = omega (arith, g.more);
           some = omega (arith, g.more);
           first = g.front 0 (omega arith) ∙ b.first;
-          start = met_at hub (rw b.first at (b.line.is_met 0 (omega arith))) ∙ b.start;
+          start = met_at_lem hub (rw b.first at (b.line.is_met 0 (omega arith))) ∙ b.start;
           small = λ i p. along i p (λ l q e. omega (arith, b.small i l)) (λ l e k. omega (arith, few));
           least = λ i p. along i p (λ l q e. omega (arith, b.least i l)) (λ l e k. omega (arith, few));
           rise = λ i j p q.
@@ -131,7 +131,7 @@ module _ {n : ℕ} {S L : List ℕ} {drop : ℕ → ℕ → Bool} {hub : ℕ} {M
                 before = omega arith;
                 link = rw this k;
                 kept = rw this (omega (arith, old_met head more, is, few));
-                met_at = rw this (omega (arith, met_at (get_or Q head 0) (b.line.is_met head more), own, few));
+                met_at = rw this (omega (arith, met_at_lem (get_or Q head 0) (b.line.is_met head more), own, few));
               }));
           done = below_more _ head (λ i p. done_stays kept_carried i p (b.done i p)) (rw this (inl (own_kept low)));
         }
