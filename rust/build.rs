@@ -1,4 +1,4 @@
-// Links the archive that `rt staticlib capi` writes.
+// Links the archive that `tools/archive` makes.
 fn main() {
     let here = std::env::var("CARGO_MANIFEST_DIR").unwrap();
     println!("cargo:rustc-link-search=native={here}/../target/staticlib");

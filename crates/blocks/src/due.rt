@@ -7,7 +7,7 @@ use build::Built;
 use refusal::ROOM;
 
 // The entries of all rows so far; or the lowest rank at which some row has more than fit.
-#[derive(Drop)]
+#[derive(Clone, Copy)]
 pub enum Due {
     Entries(usize),
     Full(usize),

@@ -3,7 +3,7 @@
 // Above every count of a run.
 pub const MANY: usize = 1000000000;
 
-#[derive(Drop)]
+#[derive(Clone, Copy)]
 pub struct Tally {
     pub builds: usize,
     pub refusals: usize,

@@ -13,7 +13,7 @@ mod run;
 mod tests;
 
 // What a build gives back: the number of entries, or its refusal.
-#[derive(Drop)]
+#[derive(Clone, Copy)]
 pub enum Built {
     Entries(usize),
     Refused(Refusal),

@@ -7,8 +7,7 @@ use build::Built;
 use entry::Entry;
 
 // `entries` is the number of entries of all rows.
-#[unsafe(no_mangle)]
-pub extern "C" fn seam_build(
+pub fn seam_build(
     n: usize,
     w: usize,
     k: usize,

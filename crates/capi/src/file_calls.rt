@@ -8,8 +8,7 @@ use entry::Entry;
 use file::{Opened, Written};
 
 // The writer: `bytes` is how many bytes of the output room it filled.
-#[unsafe(no_mangle)]
-pub extern "C" fn seam_write(
+pub fn seam_write(
     n: usize,
     w: usize,
     k: usize,
@@ -61,8 +60,7 @@ fn opened(answer: Opened, n: &mut u64, k: &mut u64, place: &mut u64) -> u32
 }
 
 // The header alone.
-#[unsafe(no_mangle)]
-pub extern "C" fn seam_header(bytes: &[u8], n: &mut u64, k: &mut u64, place: &mut u64) -> u32
+pub fn seam_header(bytes: &[u8], n: &mut u64, k: &mut u64, place: &mut u64) -> u32
     ensures { tells result place.new (n.new ∷ k.new ∷ [])
         ≡ opened_told (header_of bytes.now) }
 {
@@ -70,8 +68,7 @@ pub extern "C" fn seam_header(bytes: &[u8], n: &mut u64, k: &mut u64, place: &mu
 }
 
 // The reader.
-#[unsafe(no_mangle)]
-pub extern "C" fn seam_read(
+pub fn seam_read(
     bytes: &[u8],
     w: usize,
     order: &mut [u32],

@@ -8,8 +8,7 @@ ghost use Rattle.capi.specs.Outs.{outs, tells, order_outs};
 use crate::tell::told;
 
 // Check links.
-#[unsafe(no_mangle)]
-pub extern "C" fn seam_check_links(n: usize, starts: &[u32], places: &[u32], place: &mut u64) -> u32
+pub fn seam_check_links(n: usize, starts: &[u32], places: &[u32], place: &mut u64) -> u32
     ensures { tells result place.new []
         ≡ verdict_told (check_links n starts.now places.now) }
 {
@@ -17,16 +16,14 @@ pub extern "C" fn seam_check_links(n: usize, starts: &[u32], places: &[u32], pla
 }
 
 // Check order.
-#[unsafe(no_mangle)]
-pub extern "C" fn seam_check_order(n: usize, order: &[u32], place: &mut u64) -> u32
+pub fn seam_check_order(n: usize, order: &[u32], place: &mut u64) -> u32
     ensures { tells result place.new [] ≡ verdict_told (check_order n order.now) }
 {
     told(links::check_order(n, order), place)
 }
 
 // Order by degree.
-#[unsafe(no_mangle)]
-pub extern "C" fn seam_order_by_degree(
+pub fn seam_order_by_degree(
     n: usize,
     starts: &[u32],
     places: &[u32],
@@ -40,8 +37,7 @@ pub extern "C" fn seam_order_by_degree(
 }
 
 // Order scattered.
-#[unsafe(no_mangle)]
-pub extern "C" fn seam_order_scattered(
+pub fn seam_order_scattered(
     n: usize,
     starts: &[u32],
     places: &[u32],

@@ -16,8 +16,7 @@ use rows::spread::SpreadAnswer;
 use rows::within::WithinAnswer;
 
 // The pair question: `found` is 1 with the joins, 0 with 0 for none.
-#[unsafe(no_mangle)]
-pub extern "C" fn seam_pair(
+pub fn seam_pair(
     n: usize,
     w: usize,
     labels: &[Entry],
@@ -54,8 +53,7 @@ pub extern "C" fn seam_pair(
 }
 
 // The row check.
-#[unsafe(no_mangle)]
-pub extern "C" fn seam_check_row(
+pub fn seam_check_row(
     n: usize,
     w: usize,
     labels: &[Entry],
@@ -70,8 +68,7 @@ pub extern "C" fn seam_check_row(
 }
 
 // The row lookup: where its part starts in the label room, and its length.
-#[unsafe(no_mangle)]
-pub extern "C" fn seam_row(
+pub fn seam_row(
     n: usize,
     w: usize,
     labels: &[Entry],
@@ -101,8 +98,7 @@ pub extern "C" fn seam_row(
 }
 
 // The spread question.
-#[unsafe(no_mangle)]
-pub extern "C" fn seam_spread(
+pub fn seam_spread(
     n: usize,
     w: usize,
     labels: &[Entry],
@@ -128,8 +124,7 @@ pub extern "C" fn seam_spread(
 }
 
 // Within so many joins: `yes` is 1 or 0.
-#[unsafe(no_mangle)]
-pub extern "C" fn seam_within(
+pub fn seam_within(
     n: usize,
     w: usize,
     labels: &[Entry],

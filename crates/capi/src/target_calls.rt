@@ -69,8 +69,7 @@ fn tell_sixteen(
 }
 
 // Nearest target: `found` is 1 with the place of the record in the list, 0 with 0 for none.
-#[unsafe(no_mangle)]
-pub extern "C" fn seam_nearest(
+pub fn seam_nearest(
     n: usize,
     w: usize,
     labels: &[Entry],
@@ -100,8 +99,7 @@ pub extern "C" fn seam_nearest(
 }
 
 // The sixteen counts.
-#[unsafe(no_mangle)]
-pub extern "C" fn seam_sixteen(
+pub fn seam_sixteen(
     n: usize,
     w: usize,
     labels: &[Entry],

@@ -2,7 +2,8 @@
 // the reader refuses it.
 use crate::print;
 use file::Opened;
-use listing::{FRAMES, TAKEN, WIDTH};
+use listing::{FRAMES, LONGEST, TAKEN, WIDTH};
+use std::{fs, str};
 
 // The place of a refusal.
 fn place(opened: Opened) {
@@ -35,37 +36,34 @@ fn judge(bytes: &[u8]) {
     place(answer);
 }
 
-// Where the reader refuses what a descriptor gives.
-fn refusals(input: i32) {
-    let mut bytes = [0u8; TAKEN];
-    let taken = io::read_full(input, &mut bytes);
-    judge(&bytes[..taken]);
+// What the listing makes of a file's bytes.
+fn list(bytes: &[u8]) {
+    let mut out = [0u8; LONGEST];
+    let length = listing::listing(bytes, &mut out);
+    print::words(&out[..length]);
 }
 
-// One file; whether it is there.
-fn file_of(tens: u8, ones: u8) -> bool {
+// One file; whether it is there. Of its bytes so many are taken as the listing takes of an input.
+fn file_of(rt: &HostRuntime, tens: u8, ones: u8) -> bool {
     let name = [tens, ones];
-    let listed = os::open_read(&name);
-    if listed < 0 {
+    let Ok(path) = str::from_utf8(&name) else {
         return false;
-    }
+    };
+    let Ok(bytes) = fs::read(rt, path) else {
+        return false;
+    };
+    let taken = bytes.len().min(TAKEN);
     print::words(&name);
     print::words(b"\n");
-    listing::list(listed, 1);
-    libc::close(listed);
-    let judged = os::open_read(&name);
-    if judged < 0 {
-        return false;
-    }
-    refusals(judged);
-    libc::close(judged);
+    list(&bytes[..taken]);
+    judge(&bytes[..taken]);
     true
 }
 
-pub fn run() {
+pub fn run(rt: &HostRuntime) {
     let mut number: u8 = 0;
     while number < 100 {
-        if !file_of(48 + number / 10, 48 + number % 10) {
+        if !file_of(rt, 48 + number / 10, 48 + number % 10) {
             return;
         }
         number += 1;

@@ -6,7 +6,7 @@ mod files;
 mod print;
 mod worked;
 
-fn main() {
+fn main(rt: HostRuntime) {
     worked::run();
-    files::run();
+    files::run(&rt);
 }

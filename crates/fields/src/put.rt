@@ -11,7 +11,7 @@ use entry;
 use entry::Entry;
 
 // A pen: `at` bytes are finished, and `nb` bits, below eight, of value `acc` are not yet a byte.
-#[derive(Drop)]
+#[derive(Clone, Copy)]
 pub struct Pen {
     pub at: usize,
     pub acc: usize,

@@ -17,6 +17,10 @@ use Rattle.file.specs.Reader.{short_test, field_test, frames_of, stop_of, header
 use Rattle.fields.proofs.Bits.{field_lt}
 use Rattle.file.proofs.Steps.{short_fine, short_refused, field_fine, field_refused, field_short, field_there, field_legal}
 
+-- the same answer, and what is told of it, as the two clauses of the reader's contract
+pub read_said {ℓ} : {A B : Type ℓ} (f : A → B) {a b : A} → a ≡ b → record { given : a ≡ b; said : f a ≡ f b }
+read_said f e = record { given = e; said = ap f e }
+
 -- ---- an answer
 
 pub opened_fine : {v : Verdict} (n k : ℕ) → v ≡ Verdict.Fine → Opened.Index n k ≡ opened v n k

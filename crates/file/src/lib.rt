@@ -18,14 +18,14 @@ mod step;
 mod store;
 
 // What writing gives: the bytes filled, or a refusal.
-#[derive(Drop)]
+#[derive(Clone, Copy)]
 pub enum Written {
     Bytes(usize),
     Refused(Refusal),
 }
 
 // What opening a file gives: an index of n frames and stop k, or a refusal.
-#[derive(Drop)]
+#[derive(Clone, Copy)]
 pub enum Opened {
     Index(usize, usize),
     Refused(Refusal),

@@ -11,7 +11,7 @@ use fields::get;
 use refusal::{Refusal, Verdict};
 
 // A number to go on with, or the refusal.
-#[derive(Drop)]
+#[derive(Clone, Copy)]
 pub enum Step {
     On(usize),
     Refused(Refusal),

@@ -35,14 +35,14 @@ pub const LONG: u32 = 13;
 
 pub const OUT: u32 = 14;
 
-#[derive(Drop)]
+#[derive(Clone, Copy)]
 pub struct Refusal {
     pub number: u32,
     pub place: usize,
 }
 
 // What a test, or several in a row, found: nothing, or the first refusal.
-#[derive(Drop)]
+#[derive(Clone, Copy)]
 pub enum Verdict {
     Fine,
     Refused(Refusal),

@@ -13,14 +13,14 @@ use entry::{Entry, joins_of, rank_of};
 pub const NO_SUM: usize = 2 * entry::RANK_STEP_WIDE;
 
 // A rank that is in both rows, and the sum of its joins.
-#[derive(Drop)]
+#[derive(Clone, Copy)]
 pub struct Meeting {
     pub rank: usize,
     pub sum: usize,
 }
 
 // The best meeting.
-#[derive(Drop)]
+#[derive(Clone, Copy)]
 pub enum Best {
     Nowhere,
     Meet(Meeting),

@@ -9,7 +9,7 @@ use entry::Entry;
 use refusal::{Refusal, Verdict};
 
 // What the pair question gives back: a number of joins, none where no rank is shared, or a refusal.
-#[derive(Drop)]
+#[derive(Clone, Copy)]
 pub enum Answer {
     Joins(usize),
     None,

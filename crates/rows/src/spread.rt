@@ -9,7 +9,7 @@ use entry::Entry;
 use refusal::{ROW, Refusal, Verdict};
 
 // What the spread question gives back: the spread, or a refusal.
-#[derive(Drop)]
+#[derive(Clone, Copy)]
 pub enum SpreadAnswer {
     Spread(usize),
     Refused(Refusal),

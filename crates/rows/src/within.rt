@@ -13,7 +13,7 @@ use entry::{Entry, joins_of, rank_of};
 use refusal::{Refusal, Verdict};
 
 // What the question gives back: yes, no, or a refusal.
-#[derive(Drop)]
+#[derive(Clone, Copy)]
 pub enum WithinAnswer {
     Yes,
     No,

@@ -11,7 +11,7 @@ use entry::Entry;
 use refusal::{Refusal, Verdict};
 
 // What the question gives back: a record's place, none, or a refusal.
-#[derive(Drop)]
+#[derive(Clone, Copy)]
 pub enum NearestTarget {
     Record(usize),
     None,

@@ -5,14 +5,14 @@ ghost use Rattle.targets.specs.Inner.{frame_at, listed_of, listed_with};
 
 // A target: its frame, and a mark that is neither tested nor read.
 #[repr(C)]
-#[derive(Drop)]
+#[derive(Clone, Copy)]
 pub struct Target {
     pub frame: u32,
     pub mark: u32,
 }
 
 // The records taken apart: how many there are, and the frames of the first sixteen.
-#[derive(Drop)]
+#[derive(Clone, Copy)]
 pub struct Listed {
     pub count: usize,
     pub frames: [u32; 16],

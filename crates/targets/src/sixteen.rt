@@ -11,7 +11,7 @@ use entry::Entry;
 use refusal::Verdict;
 
 // What the question gives back: the tests' verdict, and the sixteen counts, all 0 on a refusal.
-#[derive(Drop)]
+#[derive(Clone, Copy)]
 pub struct SixteenCounts {
     pub verdict: Verdict,
     pub counts: [u64; 16],

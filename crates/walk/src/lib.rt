@@ -20,7 +20,7 @@ pub const LACKING: u32 = 65536;
 const MOST_MARK: usize = refusal::sizes::MOST_JOINS + 1;
 
 // What became of a walk: made as a whole, or refused for room or for too many joins with nothing stored.
-#[derive(Drop)]
+#[derive(Clone, Copy)]
 pub enum Walked {
     Made,
     Full,

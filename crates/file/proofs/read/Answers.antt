@@ -2,15 +2,14 @@
 -- filled to their ends are what the definition says.
 use mathlib.Core.Path.{◌≡◌, sym, ◌∙◌}
 use lib.ListN.{length}
-use Rattle.basics.proofs.Laws.{read_off}
 use Rattle.refusal.specs.declared.Verdict.{Verdict}
 use Rattle.file.specs.Reader.{frames_of, stop_of, read_test, ReadOutcome, opened_told}
 use Rattle.file.proofs.Reader.{readable, stores_order, stores_rows, read_refused, read_fine}
-use Rattle.file.proofs.Heading.{index_is, refused_is}
+use Rattle.file.proofs.Heading.{read_said, index_is, refused_is}
 use Rattle.file.proofs.read.Goals as goal
 
 pub returns-in_default : goal.returns-in_default
-returns-in_default c = read_off (λ (out : ReadOutcome). opened_told out.answer) (read_refused _ _ _ _ _ c.in_default.is (refused_is _ _ _ (sym c.in_default.is ∙ c.file-opened.ensures)))
+returns-in_default c = read_said (λ (out : ReadOutcome). opened_told out.answer) (read_refused _ _ _ _ _ c.in_default.is (refused_is _ _ _ (sym c.in_default.is ∙ c.file-opened.ensures)))
 
 pub order-requires : goal.order-requires
 order-requires c = let found : (read_test c.args.bytes.now c.args.w (length c.args.order.now) (length c.args.labels.now) (length c.args.counts.now) ≡ Verdict.Fine) × (c.in-Index.n ≡ frames_of c.args.bytes.now) × (c.in-Index.k ≡ stop_of c.args.bytes.now) = index_is _ _ _ (sym c.in-Index.is ∙ c.file-opened.ensures) in
@@ -25,4 +24,4 @@ rows-requires c = let found : (read_test c.args.bytes.now c.args.w (length c.arg
 pub returns : goal.returns
 returns c = let found : (read_test c.args.bytes.now c.args.w (length c.args.order.now) (length c.args.labels.now) (length c.args.counts.now) ≡ Verdict.Fine) × (c.in-Index.n ≡ frames_of c.args.bytes.now) × (c.in-Index.k ≡ stop_of c.args.bytes.now) = index_is _ _ _ (sym c.in-Index.is ∙ c.file-opened.ensures) in
     let (e, p, q) = found in
-    read_off (λ (out : ReadOutcome). opened_told out.answer) (read_fine _ _ _ _ _ e p q c.order.ensures c.rows.ensures.labels c.rows.ensures.counts)
+    read_said (λ (out : ReadOutcome). opened_told out.answer) (read_fine _ _ _ _ _ e p q c.order.ensures c.rows.ensures.labels c.rows.ensures.counts)

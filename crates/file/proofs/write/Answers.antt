@@ -53,6 +53,14 @@ pub overflow_add-end : goal.overflow_add-end
 overflow_add-end c = let inside : (c.args.start ≤ length c.args.out.now) × (c.size-size.result ≤ length c.args.out.now - c.args.start) = out_held _ _ _ (sym c.out_fits-fits.ensures ∙ c.if-not-fits.false) in
     omega (arith, inside)
 
+pub slice_bounds-fill-start : goal.slice_bounds-fill-start
+slice_bounds-fill-start c = let inside : (c.args.start ≤ length c.args.out.now) × (c.size-size.result ≤ length c.args.out.now - c.args.start) = out_held _ _ _ (sym c.out_fits-fits.ensures ∙ c.if-not-fits.false) in
+    omega (arith, inside)
+
+pub slice_bounds-fill-end : goal.slice_bounds-fill-end
+slice_bounds-fill-end c = let inside : (c.args.start ≤ length c.args.out.now) × (c.size-size.result ≤ length c.args.out.now - c.args.start) = out_held _ _ _ (sym c.out_fits-fits.ensures ∙ c.if-not-fits.false) in
+    omega (arith, inside)
+
 pub fill-requires : goal.fill-requires
 fill-requires c = let fine : write_tests c.args.n c.args.w c.args.k c.args.order.now c.args.labels.now c.args.counts.now ≡ Fine = sym c.tests-tests.ensures ∙ c.in_default.is in
     let passed : Fit c.args.n c.args.w c.args.k c.args.order.now c.args.labels.now c.args.counts.now = fit _ _ _ _ _ _ (fine) in

@@ -11,11 +11,8 @@ use Rattle.fields.specs.Bits.{field_at}
 use Rattle.file.specs.Reader.{entry_test, low_at, entries_from}
 use Rattle.file.proofs.Steps.{went_on, stopped, verdict_refused}
 use Rattle.fields.proofs.Bits.{field_lt}
+use Rattle.file.proofs.check.entries.Invariants.{from}
 use Rattle.file.proofs.check.entries.Goals as goal
-
--- the entries from entry i on
-abbrev from : List ℕ → ℕ → ℕ → ℕ → ℕ → ℕ → Verdict
-from s n k p count i = entries_from s n k p i (count - i)
 
 pub loop-left-init : goal.loop-left-init
 unfolding low_at

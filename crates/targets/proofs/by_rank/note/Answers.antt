@@ -31,10 +31,7 @@ bounds-noted-rank-then-joins-noted c = omega (arith, c.rank_of-rank.ensures, c.r
 
 pub loop-at-preserved : goal.loop-at-preserved
 loop-at-preserved c = let on = note_turn c.args.row.now c.loop-at.noted c.loop-at.at c.loop-at-test.true c.loop-at.invariant.0 c.loop-at.invariant.1 in
-    elim c.if-joins-noted.branch [ then-joins-noted w ↦ on (w.1 ∙ note_less c.loop-at.noted _ c.rank_of-rank.ensures c.joins_of-joins.ensures w.if-joins-noted.true) | else-joins-noted w ↦ on (w.1 ∙ note_kept c.loop-at.noted _ c.rank_of-rank.ensures c.joins_of-joins.ensures w.if-joins-noted.false) ]
-
-pub shape_of-noted : goal.shape_of-noted
-shape_of-noted c = c.loop-at.invariant.0
+    elim c.if-joins-noted.branch [ then-joins-noted w ↦ on (w.noted-is ∙ note_less c.loop-at.noted _ c.rank_of-rank.ensures c.joins_of-joins.ensures w.if-joins-noted.true) | else-joins-noted w ↦ on (w.noted-is ∙ note_kept c.loop-at.noted _ c.rank_of-rank.ensures c.joins_of-joins.ensures w.if-joins-noted.false) ]
 
 pub returns : goal.returns
 unfolding noted_in

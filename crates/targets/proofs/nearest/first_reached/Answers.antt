@@ -1,7 +1,6 @@
 -- The goals that the search leaves.
 use Prim.Native.Nat.{◌-◌}
 use mathlib.Core.Path.{◌≡◌, sym, ap, subst, ◌∙◌}
-use mathlib.Core.Logic.{⊎_elim}
 use native.Mathlib.Omega.{arith}
 use lib.ListN.{get_or}
 use Rattle.rows.specs.Rooms.{row_at}
@@ -9,28 +8,10 @@ use Rattle.targets.specs.Inner.{RanksIn, RowKnown, reach_of, reach_to}
 use Rattle.targets.proofs.ByRank.{part_known}
 use Rattle.targets.proofs.NearestLaws.{fewest_none, fewest_less, fewest_kept, reached_record, reached_none}
 use Rattle.targets.proofs.nearest.first_reached.Goals as goal
-
--- the row that is read
--- TODO by hand
--- module _ (c : tie.After-row-part invariant-loop decreases-loop) where
---   known :
---       let s = c.before.before.before.before.before.before.before.before.before in
---       let frame = get_or s.args.frames.now c.before.before.before.before.loop.i 0 in
---       RowKnown s.args.w s.args.labels.now s.args.counts.now s.args.noted.now frame
---   known =
---       c.before.before.before.before.before.before.before.before.before.requires.rows _
---       c.before.before.before.loop-test.true
---   row :
---       let s = c.before.before.before.before.before.before.before.before.before in
---       let frame = get_or s.args.frames.now c.before.before.before.before.loop.i 0 in
---       c.row-part.result.now ≡ row_at s.args.w s.args.labels.now s.args.counts.now frame
---   row = c.row-part.ensures.0 ∙ part_known known
+use Rattle.targets.proofs.nearest.first_reached.Goals.{then-joins-fewest, else-joins-fewest}
 
 pub loop-i-init : goal.loop-i-init
 loop-i-init c = (omega arith, fewest_none _ _)
-
-pub overflow_cast-frame : goal.overflow_cast-frame
-overflow_cast-frame c = omega (arith, c.type_inv.frames c.loop-i.i)
 
 pub offset_bounds-counts-frame : goal.offset_bounds-counts-frame
 offset_bounds-counts-frame c = omega (arith, (c.requires.rows c.loop-i.i c.loop-i-test.true).row.counted)
@@ -38,22 +19,22 @@ offset_bounds-counts-frame c = omega (arith, (c.requires.rows c.loop-i.i c.loop-
 pub bounds-counts-frame : goal.bounds-counts-frame
 bounds-counts-frame c = (c.requires.rows c.loop-i.i c.loop-i-test.true).row.counted
 
-pub overflow_cast-counts : goal.overflow_cast-counts
-overflow_cast-counts c = let frame = get_or c.args.frames.now c.loop-i.i 0 in
-    omega (arith, c.type_inv.counts frame)
-
 pub reach-joins-requires : goal.reach-joins-requires
-reach-joins-requires c = (subst (RanksIn _) (sym (row c)) (known c).ranks, c.requires.low)
+reach-joins-requires c = let known : let frame = get_or c.args.frames.now c.loop-i.i 0 in RowKnown c.args.w c.args.labels.now c.args.counts.now c.args.noted.now frame = c.requires.rows _ c.loop-i-test.true in
+    let row : let frame = get_or c.args.frames.now c.loop-i.i 0 in c.row_part-row.result.now ≡ row_at c.args.w c.args.labels.now c.args.counts.now frame = c.row_part-row.ensures.entries ∙ part_known known in
+    (subst (RanksIn _) (sym (row)) (known).ranks, c.requires.low)
 
 pub loop-i-preserved : goal.loop-i-preserved
 unfolding reach_to
-loop-i-preserved c = let joins : c.reach-joins.result ≡ reach_to c.args.w c.args.labels.now c.args.counts.now c.args.frames.now c.args.noted.now c.loop-i.i = c.reach-joins.ensures ∙ ap (reach_of _) (row c) in
+loop-i-preserved c = let known : let frame = get_or c.args.frames.now c.loop-i.i 0 in RowKnown c.args.w c.args.labels.now c.args.counts.now c.args.noted.now frame = c.requires.rows _ c.loop-i-test.true in
+    let row : let frame = get_or c.args.frames.now c.loop-i.i 0 in c.row_part-row.result.now ≡ row_at c.args.w c.args.labels.now c.args.counts.now frame = c.row_part-row.ensures.entries ∙ part_known known in
+    let joins : c.reach-joins.result ≡ reach_to c.args.w c.args.labels.now c.args.counts.now c.args.frames.now c.args.noted.now c.loop-i.i = c.reach-joins.ensures ∙ ap (reach_of _) (row) in
     let e = joins in (
       omega arith,
-      ⊎_elim
-          (λ w. fewest_less c.loop-i.invariant.1 (omega (arith, w.0.taken, e)) (w.1 ∙ e) w.2)
-          (λ w. fewest_kept c.loop-i.invariant.1 (omega (arith, w.0.left, e)) w.1 w.2)
-          c.if-joins-fewest.branch,
+      elim c.if-joins-fewest.branch [
+        | then-joins-fewest w ↦ fewest_less c.loop-i.invariant.1 (omega (arith, w.if-joins-fewest.true, e)) (w.fewest-is ∙ e) w.place-is
+        | else-joins-fewest w ↦ fewest_kept c.loop-i.invariant.1 (omega (arith, w.if-joins-fewest.false, e)) w.fewest-is w.place-is
+      ],
     )
 
 pub returns-then-fewest : goal.returns-then-fewest

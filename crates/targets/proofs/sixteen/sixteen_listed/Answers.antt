@@ -9,16 +9,13 @@ use Rattle.targets.proofs.Listed.{sixteen_many}
 use Rattle.targets.proofs.TestLaws.{frames_cut, length_in}
 use Rattle.targets.proofs.sixteen.sixteen_listed.Goals as goal
 
--- the array has sixteen places
--- TODO by hand
--- long : (c : tie.After-frames2) → length c.before.before.before.before.before.args.listed.frames ≡ 16
--- long c =
---     sym (length-map c.before.before.before.before.before.args.listed.frames (λ v. v)) ∙ c.before.before.before.before.before.well-formed.1.1.1.1.0.1.1.1.0.1.0.1
-
 pub returns-then-count-gt-MOST_TARGETS : goal.returns-then-count-gt-MOST_TARGETS
 unfolding sixteen_by if_fine
 returns-then-count-gt-MOST_TARGETS c = ap {B = SixteenCounts} (λ v. record { verdict = v; counts = replicate 16 0 }) c.refused.ensures
     ∙ sym (sixteen_many _ _ _ _ _ (omega (arith, length_in c.args.listed, c.if-count-gt-MOST_TARGETS.true)))
 
+pub slice_bounds-sixteen_of-end : goal.slice_bounds-sixteen_of-end
+slice_bounds-sixteen_of-end c = let long : length c.args.listed.frames ≡ 16 = c.well_formed.1.1.1.1.0.1.1.1.0.1.0.1 in omega (arith, long)
+
 pub returns : goal.returns
-returns c = c.sixteen_of.ensures ∙ ap (sixteen_of _ _ _ _) (frames_cut _ (omega (arith, long c)))
+returns c = c.sixteen_of.ensures ∙ ap (sixteen_of _ _ _ _) (frames_cut _ (let long : length c.args.listed.frames ≡ 16 = c.well_formed.1.1.1.1.0.1.1.1.0.1.0.1 in omega (arith, long)))
