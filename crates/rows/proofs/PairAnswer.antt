@@ -13,7 +13,7 @@ use lib.Dec.{eqb, ltb}
 use Rattle.basics.specs.Places.{least}
 use Rattle.basics.proofs.Laws.{bcase, by_cases, three_ways, cond_true, cond_false, either_false, either_true, both_true, cases, least_most, least_ge}
 use Rattle.refusal.specs.declared.Verdict.TheVariants.{Fine}
-use Rattle.theory.specs.Chains.{joins, Least}
+use Rattle.theory.specs.Chains.{Least}
 use Rattle.theory.specs.Distance.{far, said}
 use Rattle.theory.specs.Rows.{Row, Shared, at, answer}
 use Rattle.theory.proofs.Plain.{plain_literal}

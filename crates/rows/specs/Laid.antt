@@ -1,5 +1,5 @@
 -- The label room and the count room as tables of rows: the rows that two rooms hold, and the rooms that hold given rows.
-use Rattle.std.specs.Prelude.{ℕ, ◌*◌, ◌/◌, ◌%◌, ◌≡◌, List, length, get_or}
+use Rattle.std.specs.Prelude.{ℕ, ◌*◌, ◌/◌, ◌%◌, List, length, get_or}
 use Rattle.basics.specs.Places.{table}
 use Rattle.theory.specs.Rows.{Row}
 use Rattle.entry.specs.Entry.{encode, decode}

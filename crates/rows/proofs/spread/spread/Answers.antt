@@ -1,7 +1,6 @@
 -- The goals that the search leaves.
-use Prim.Native.Nat.{ℕ, ◌-◌, max}
+use Prim.Native.Nat.{ℕ, max}
 use mathlib.Core.Path.{◌≡◌, refl, sym, ap, ◌∙◌}
-use mathlib.Core.Bool.{not}
 use native.Mathlib.Nat.{sub-zero}
 use native.Mathlib.Numerals.{add-one}
 use native.Mathlib.Omega.{arith}
