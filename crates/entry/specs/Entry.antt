@@ -1,5 +1,5 @@
 -- The entry's layout: rank * 65,536 + joins.
-use Rattle.std.specs.Prelude.{ℕ, ◌+◌, ◌*◌, ◌/◌, ◌%◌, ◌<◌, List, map, length, get_or}
+use Rattle.std.specs.Prelude.{ℕ, ◌+◌, ◌*◌, ◌/◌, ◌%◌, List, map}
 use Rattle.theory.specs.Rows.{Row}
 
 -- an entry is a number of 32 bits

@@ -7,7 +7,7 @@ use mathlib.Core.List.{List}
 use native.Mathlib.Omega.{arith}
 use lib.ListN.{length, get_or}
 use lib.Dec.{eqb, leb}
-use Rattle.basics.specs.Places.{count, first}
+use Rattle.basics.specs.Places.{first}
 use Rattle.basics.proofs.Laws.{count_ext, table_ext, least_ext, first_ext}
 use Rattle.refusal.specs.Numbers.{SIZE, LENGTH, ROW}
 use Rattle.refusal.specs.Sizes.{sizes_fit}

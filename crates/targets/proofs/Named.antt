@@ -8,7 +8,7 @@ use lib.Dec.{ltb}
 use lib.ListN.{length, get_or}
 use Rattle.refusal.proofs.Laws.{Named, Numbered, test_numbered, then_numbered, tests_numbered, numbered_fine, gives_apart, refuses_apart, gives_refuses}
 use Rattle.refusal.specs.Numbers.{FRAME, ROW}
-use Rattle.refusal.specs.Tests.{if_fine, test}
+use Rattle.refusal.specs.Tests.{if_fine}
 use Rattle.refusal.specs.Told.{verdict_told}
 use Rattle.refusal.specs.declared.Refusal.{Refusal}
 use Rattle.refusal.specs.declared.Verdict.TheVariants as verdicts

@@ -1,7 +1,7 @@
 -- One hub's walk over the rooms as they stand, by theory's levels: which frames it meets, at which level, which it keeps,
 -- whether each has room, and the rows after it.
-use Rattle.std.specs.Prelude.{ℕ, ◌+◌, Bool, cond, not, ◌&&◌, List, get_or, leb, ltb}
-use Rattle.basics.specs.Places.{some, table}
+use Rattle.std.specs.Prelude.{ℕ, Bool, cond, not, ◌&&◌, List, get_or, leb, ltb}
+use Rattle.basics.specs.Places.{some}
 use Rattle.refusal.specs.Sizes.{most_joins}
 use Rattle.theory.specs.Distance.{far}
 use Rattle.theory.specs.Rows.{Row, answer}

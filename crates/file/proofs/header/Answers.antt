@@ -27,15 +27,21 @@ unfolding byte_len
 get-version-requires c = (search rules, omega arith)
 
 pub returns-then-version-ne-VERSION_VALUE : goal.returns-then-version-ne-VERSION_VALUE
-returns-then-version-ne-VERSION_VALUE c = refuses _ c.closed-then-version-ne-VERSION_VALUE.ensures (version_other _ c.if-bytes-lt-VERSION_BYTES.false (λ e. c.if-version-ne-VERSION_VALUE.true (c.get-version.ensures ∙ e)))
+returns-then-version-ne-VERSION_VALUE c = refuses _ c.closed-then-version-ne-VERSION_VALUE.ensures
+    (version_other _ c.if-bytes-lt-VERSION_BYTES.false (λ e. c.if-version-ne-VERSION_VALUE.true
+    (c.get-version.ensures ∙ e)))
 
 pub returns-then-bytes-lt-FRAMES_BYTES : goal.returns-then-bytes-lt-FRAMES_BYTES
-returns-then-bytes-lt-FRAMES_BYTES c = let version : field_at c.args.bytes.now 0 4 ≡ 1 = sym c.get-version.ensures ∙ c.if-version-ne-VERSION_VALUE.false in
-    refuses _ c.closed-then-bytes-lt-FRAMES_BYTES.ensures (frames_short _ c.if-bytes-lt-VERSION_BYTES.false (version) c.if-bytes-lt-FRAMES_BYTES.true)
+returns-then-bytes-lt-FRAMES_BYTES c = let version : field_at c.args.bytes.now 0 4 ≡ 1 = sym c.get-version.ensures
+    ∙ c.if-version-ne-VERSION_VALUE.false in
+    refuses _ c.closed-then-bytes-lt-FRAMES_BYTES.ensures
+    (frames_short _ c.if-bytes-lt-VERSION_BYTES.false version c.if-bytes-lt-FRAMES_BYTES.true)
 
 pub returns-then-bytes-lt-HEADER_BYTES : goal.returns-then-bytes-lt-HEADER_BYTES
-returns-then-bytes-lt-HEADER_BYTES c = let version : field_at c.args.bytes.now 0 4 ≡ 1 = sym c.get-version.ensures ∙ c.if-version-ne-VERSION_VALUE.false in
-    refuses _ c.closed-then-bytes-lt-HEADER_BYTES.ensures (stop_short _ c.if-bytes-lt-FRAMES_BYTES.false (version) c.if-bytes-lt-HEADER_BYTES.true)
+returns-then-bytes-lt-HEADER_BYTES c = let version : field_at c.args.bytes.now 0 4 ≡ 1 = sym c.get-version.ensures
+    ∙ c.if-version-ne-VERSION_VALUE.false in
+    refuses _ c.closed-then-bytes-lt-HEADER_BYTES.ensures
+    (stop_short _ c.if-bytes-lt-FRAMES_BYTES.false version c.if-bytes-lt-HEADER_BYTES.true)
 
 pub get-n-requires : goal.get-n-requires
 unfolding byte_len
@@ -50,9 +56,10 @@ get-k-requires c = (search rules, omega arith)
 
 pub returns-then-n-k : goal.returns-then-n-k
 unfolding frames_of stop_of
-returns-then-n-k c = let version : field_at c.args.bytes.now 0 4 ≡ 1 = sym c.get-version.ensures ∙ c.if-version-ne-VERSION_VALUE.false in
+returns-then-n-k c = let version : field_at c.args.bytes.now 0 4 ≡ 1 = sym c.get-version.ensures
+    ∙ c.if-version-ne-VERSION_VALUE.false in
     refuses _ c.closed-then-n-k.ensures
-    (stop_over _ c.if-bytes-lt-HEADER_BYTES.false (version) (omega (arith, c.if-n-k.true, c.get-k.ensures, c.get-n.ensures)))
+    (stop_over _ c.if-bytes-lt-HEADER_BYTES.false version (omega (arith, c.if-n-k.true, c.get-k.ensures, c.get-n.ensures)))
 
 pub get-spare-requires : goal.get-spare-requires
 unfolding byte_len
@@ -60,16 +67,19 @@ get-spare-requires c = (search rules, omega arith)
 
 pub returns-then-spare-ne0 : goal.returns-then-spare-ne0
 unfolding frames_of stop_of
-returns-then-spare-ne0 c = let version : field_at c.args.bytes.now 0 4 ≡ 1 = sym c.get-version.ensures ∙ c.if-version-ne-VERSION_VALUE.false in
-    let stop-in : stop_of c.args.bytes.now ≤ frames_of c.args.bytes.now = omega (arith, c.if-n-k.false, c.get-k.ensures, c.get-n.ensures) in
+returns-then-spare-ne0 c = let version : field_at c.args.bytes.now 0 4 ≡ 1 = sym c.get-version.ensures
+    ∙ c.if-version-ne-VERSION_VALUE.false in
+    let stop-in : stop_of c.args.bytes.now ≤ frames_of c.args.bytes.now = omega
+    (arith, c.if-n-k.false, c.get-k.ensures, c.get-n.ensures) in
     refuses _ c.closed-then-spare-ne0.ensures
-    (spare_set _ c.if-bytes-lt-HEADER_BYTES.false (version) (stop-in) (λ e. c.if-spare-ne0.true (c.get-spare.ensures ∙ e)))
+    (spare_set _ c.if-bytes-lt-HEADER_BYTES.false version stop-in (λ e. c.if-spare-ne0.true (c.get-spare.ensures ∙ e)))
 
 pub returns : goal.returns
 unfolding frames_of stop_of header_of
 returns c = let version : field_at c.args.bytes.now 0 4 ≡ 1 = sym c.get-version.ensures ∙ c.if-version-ne-VERSION_VALUE.false in
-    let stop-in : stop_of c.args.bytes.now ≤ frames_of c.args.bytes.now = omega (arith, c.if-n-k.false, c.get-k.ensures, c.get-n.ensures) in
+    let stop-in : stop_of c.args.bytes.now ≤ frames_of c.args.bytes.now = omega
+    (arith, c.if-n-k.false, c.get-k.ensures, c.get-n.ensures) in
     read_said opened_told
     (ap₂ Opened.Index (ap (λ (x : ℕ). x + 1) c.get-n.ensures) c.get-k.ensures
     ∙ opened_fine _ _
-    (header_fine _ c.if-bytes-lt-HEADER_BYTES.false (version) (stop-in) (sym c.get-spare.ensures ∙ c.if-spare-ne0.false)))
+    (header_fine _ c.if-bytes-lt-HEADER_BYTES.false version stop-in (sym c.get-spare.ensures ∙ c.if-spare-ne0.false)))

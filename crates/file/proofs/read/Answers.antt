@@ -9,19 +9,27 @@ use Rattle.file.proofs.Heading.{read_said, index_is, refused_is}
 use Rattle.file.proofs.read.Goals as goal
 
 pub returns-in_default : goal.returns-in_default
-returns-in_default c = read_said (λ (out : ReadOutcome). opened_told out.answer) (read_refused _ _ _ _ _ c.in_default.is (refused_is _ _ _ (sym c.in_default.is ∙ c.file-opened.ensures)))
+returns-in_default c = read_said (λ (out : ReadOutcome). opened_told out.answer)
+    (read_refused _ _ _ _ _ c.in_default.is (refused_is _ _ _ (sym c.in_default.is ∙ c.file-opened.ensures)))
 
 pub order-requires : goal.order-requires
-order-requires c = let found : (read_test c.args.bytes.now c.args.w (length c.args.order.now) (length c.args.labels.now) (length c.args.counts.now) ≡ Verdict.Fine) × (c.in-Index.n ≡ frames_of c.args.bytes.now) × (c.in-Index.k ≡ stop_of c.args.bytes.now) = index_is _ _ _ (sym c.in-Index.is ∙ c.file-opened.ensures) in
+order-requires c = let found : (read_test c.args.bytes.now c.args.w (length c.args.order.now) (length c.args.labels.now)
+    (length c.args.counts.now) ≡ Verdict.Fine) × (c.in-Index.n ≡ frames_of c.args.bytes.now) ×
+    (c.in-Index.k ≡ stop_of c.args.bytes.now) = index_is _ _ _ (sym c.in-Index.is ∙ c.file-opened.ensures) in
     let (e, p, q) = found in
     stores_order (readable _ _ _ _ _ e) p
 
 pub rows-requires : goal.rows-requires
-rows-requires c = let found : (read_test c.args.bytes.now c.args.w (length c.args.order.now) (length c.args.labels.now) (length c.args.counts.now) ≡ Verdict.Fine) × (c.in-Index.n ≡ frames_of c.args.bytes.now) × (c.in-Index.k ≡ stop_of c.args.bytes.now) = index_is _ _ _ (sym c.in-Index.is ∙ c.file-opened.ensures) in
+rows-requires c = let found : (read_test c.args.bytes.now c.args.w (length c.args.order.now) (length c.args.labels.now)
+    (length c.args.counts.now) ≡ Verdict.Fine) × (c.in-Index.n ≡ frames_of c.args.bytes.now) ×
+    (c.in-Index.k ≡ stop_of c.args.bytes.now) = index_is _ _ _ (sym c.in-Index.is ∙ c.file-opened.ensures) in
     let (e, p, q) = found in
     stores_rows (readable _ _ _ _ _ e) p
 
 pub returns : goal.returns
-returns c = let found : (read_test c.args.bytes.now c.args.w (length c.args.order.now) (length c.args.labels.now) (length c.args.counts.now) ≡ Verdict.Fine) × (c.in-Index.n ≡ frames_of c.args.bytes.now) × (c.in-Index.k ≡ stop_of c.args.bytes.now) = index_is _ _ _ (sym c.in-Index.is ∙ c.file-opened.ensures) in
+returns c = let found : (read_test c.args.bytes.now c.args.w (length c.args.order.now) (length c.args.labels.now)
+    (length c.args.counts.now) ≡ Verdict.Fine) × (c.in-Index.n ≡ frames_of c.args.bytes.now) ×
+    (c.in-Index.k ≡ stop_of c.args.bytes.now) = index_is _ _ _ (sym c.in-Index.is ∙ c.file-opened.ensures) in
     let (e, p, q) = found in
-    read_said (λ (out : ReadOutcome). opened_told out.answer) (read_fine _ _ _ _ _ e p q c.order.ensures c.rows.ensures.labels c.rows.ensures.counts)
+    read_said (λ (out : ReadOutcome). opened_told out.answer)
+    (read_fine _ _ _ _ _ e p q c.order.ensures c.rows.ensures.labels c.rows.ensures.counts)

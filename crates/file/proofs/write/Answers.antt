@@ -30,50 +30,70 @@ back : (out last file : List ℕ) (start size : ℕ) → last ≡ file → size 
     write_outcome (Written.Bytes size) (take start out ++ (last ++ drop (start + size - start) (drop start out)))
     ≡ write_outcome (Written.Bytes (length file)) (take start out ++ (file ++ drop (start + length file) out))
 back out last file start size e d =
-    ap₂ (λ (m : ℕ) (l : List ℕ). write_outcome (Written.Bytes m) (take start out ++ (l ++ drop (start + size - start) (drop start out)))) d e
-    ∙ ap (write_outcome (Written.Bytes (length file))) (put_back out file start (start + size - start) (add-sub_cancel_left start size ∙ d))
+    ap₂ (λ (m : ℕ) (l : List ℕ). write_outcome (Written.Bytes m)
+    (take start out ++ (l ++ drop (start + size - start) (drop start out)))) d e
+    ∙ ap (write_outcome (Written.Bytes (length file))) (put_back out file start (start + size - start)
+    (add-sub_cancel_left start size ∙ d))
 
 pub returns-in-Refused : goal.returns-in-Refused
 returns-in-Refused c = sym (write_refused _ _ _ _ _ _ _ _ (sym c.tests-tests.ensures ∙ c.in-Refused.is))
 
 pub size-size-requires : goal.size-size-requires
-size-size-requires c = let fine : write_tests c.args.n c.args.w c.args.k c.args.order.now c.args.labels.now c.args.counts.now ≡ Fine = sym c.tests-tests.ensures ∙ c.in_default.is in
-    let passed : Fit c.args.n c.args.w c.args.k c.args.order.now c.args.labels.now c.args.counts.now = fit _ _ _ _ _ _ (fine) in
+size-size-requires c = let fine : write_tests c.args.n c.args.w c.args.k c.args.order.now c.args.labels.now c.args.counts.now ≡ Fine =
+    sym c.tests-tests.ensures ∙ c.in_default.is in
+    let passed : Fit c.args.n c.args.w c.args.k c.args.order.now c.args.labels.now c.args.counts.now = fit _ _ _ _ _ _ fine in
     let f = passed in (f.rooms.sizes.frames, omega (arith, f.rooms.each, f.rooms.sizes.frames))
 
 pub returns-then-not-fits : goal.returns-then-not-fits
 unfolding out_test
-returns-then-not-fits c = let fine : write_tests c.args.n c.args.w c.args.k c.args.order.now c.args.labels.now c.args.counts.now ≡ Fine = sym c.tests-tests.ensures ∙ c.in_default.is in
-    let passed : Fit c.args.n c.args.w c.args.k c.args.order.now c.args.labels.now c.args.counts.now = fit _ _ _ _ _ _ (fine) in
-    let bytes : c.size-size.result ≡ length (file_of c.args.n c.args.w c.args.k c.args.order.now c.args.labels.now c.args.counts.now) = c.size-size.ensures ∙ sym (file_bytes _ _ _ _ _ _ (passed)) in
-    sym (write_out _ _ _ _ _ _ _ _ (fine) (test_refused OUT 0
-    (ap (out_fits _ _) (sym (bytes)) ∙ sym c.out_fits-fits.ensures ∙ c.if-not-fits.true)))
+returns-then-not-fits c = let fine : write_tests c.args.n c.args.w c.args.k c.args.order.now c.args.labels.now c.args.counts.now ≡ Fine =
+    sym c.tests-tests.ensures ∙ c.in_default.is in
+    let passed : Fit c.args.n c.args.w c.args.k c.args.order.now c.args.labels.now c.args.counts.now = fit _ _ _ _ _ _ fine in
+    let bytes : c.size-size.result ≡ length
+    (file_of c.args.n c.args.w c.args.k c.args.order.now c.args.labels.now c.args.counts.now) = c.size-size.ensures
+    ∙ sym (file_bytes _ _ _ _ _ _ passed) in
+    sym (write_out _ _ _ _ _ _ _ _ fine (test_refused OUT 0
+    (ap (out_fits _ _) (sym bytes) ∙ sym c.out_fits-fits.ensures ∙ c.if-not-fits.true)))
 
 pub overflow_add-end : goal.overflow_add-end
-overflow_add-end c = let inside : (c.args.start ≤ length c.args.out.now) × (c.size-size.result ≤ length c.args.out.now - c.args.start) = out_held _ _ _ (sym c.out_fits-fits.ensures ∙ c.if-not-fits.false) in
+overflow_add-end c = let inside : (c.args.start ≤ length c.args.out.now) ×
+    (c.size-size.result ≤ length c.args.out.now - c.args.start) = out_held _ _ _
+    (sym c.out_fits-fits.ensures ∙ c.if-not-fits.false) in
     omega (arith, inside)
 
 pub slice_bounds-fill-start : goal.slice_bounds-fill-start
-slice_bounds-fill-start c = let inside : (c.args.start ≤ length c.args.out.now) × (c.size-size.result ≤ length c.args.out.now - c.args.start) = out_held _ _ _ (sym c.out_fits-fits.ensures ∙ c.if-not-fits.false) in
+slice_bounds-fill-start c = let inside : (c.args.start ≤ length c.args.out.now) ×
+    (c.size-size.result ≤ length c.args.out.now - c.args.start) = out_held _ _ _
+    (sym c.out_fits-fits.ensures ∙ c.if-not-fits.false) in
     omega (arith, inside)
 
 pub slice_bounds-fill-end : goal.slice_bounds-fill-end
-slice_bounds-fill-end c = let inside : (c.args.start ≤ length c.args.out.now) × (c.size-size.result ≤ length c.args.out.now - c.args.start) = out_held _ _ _ (sym c.out_fits-fits.ensures ∙ c.if-not-fits.false) in
+slice_bounds-fill-end c = let inside : (c.args.start ≤ length c.args.out.now) ×
+    (c.size-size.result ≤ length c.args.out.now - c.args.start) = out_held _ _ _
+    (sym c.out_fits-fits.ensures ∙ c.if-not-fits.false) in
     omega (arith, inside)
 
 pub fill-requires : goal.fill-requires
-fill-requires c = let fine : write_tests c.args.n c.args.w c.args.k c.args.order.now c.args.labels.now c.args.counts.now ≡ Fine = sym c.tests-tests.ensures ∙ c.in_default.is in
-    let passed : Fit c.args.n c.args.w c.args.k c.args.order.now c.args.labels.now c.args.counts.now = fit _ _ _ _ _ _ (fine) in
-    let bytes : c.size-size.result ≡ length (file_of c.args.n c.args.w c.args.k c.args.order.now c.args.labels.now c.args.counts.now) = c.size-size.ensures ∙ sym (file_bytes _ _ _ _ _ _ (passed)) in
-    let inside : (c.args.start ≤ length c.args.out.now) × (c.size-size.result ≤ length c.args.out.now - c.args.start) = out_held _ _ _ (sym c.out_fits-fits.ensures ∙ c.if-not-fits.false) in
+fill-requires c = let fine : write_tests c.args.n c.args.w c.args.k c.args.order.now c.args.labels.now c.args.counts.now ≡ Fine =
+    sym c.tests-tests.ensures ∙ c.in_default.is in
+    let passed : Fit c.args.n c.args.w c.args.k c.args.order.now c.args.labels.now c.args.counts.now = fit _ _ _ _ _ _ fine in
+    let bytes : c.size-size.result ≡ length
+    (file_of c.args.n c.args.w c.args.k c.args.order.now c.args.labels.now c.args.counts.now) = c.size-size.ensures
+    ∙ sym (file_bytes _ _ _ _ _ _ passed) in
+    let inside : (c.args.start ≤ length c.args.out.now) × (c.size-size.result ≤ length c.args.out.now - c.args.start) =
+    out_held _ _ _ (sym c.out_fits-fits.ensures ∙ c.if-not-fits.false) in
     let (h, l) = inside in
     (passed, stretch _ _ _ h l ∙ bytes)
 
 pub returns : goal.returns
-returns c = let fine : write_tests c.args.n c.args.w c.args.k c.args.order.now c.args.labels.now c.args.counts.now ≡ Fine = sym c.tests-tests.ensures ∙ c.in_default.is in
-    let passed : Fit c.args.n c.args.w c.args.k c.args.order.now c.args.labels.now c.args.counts.now = fit _ _ _ _ _ _ (fine) in
-    let bytes : c.size-size.result ≡ length (file_of c.args.n c.args.w c.args.k c.args.order.now c.args.labels.now c.args.counts.now) = c.size-size.ensures ∙ sym (file_bytes _ _ _ _ _ _ (passed)) in
-    let inside : (c.args.start ≤ length c.args.out.now) × (c.size-size.result ≤ length c.args.out.now - c.args.start) = out_held _ _ _ (sym c.out_fits-fits.ensures ∙ c.if-not-fits.false) in
+returns c = let fine : write_tests c.args.n c.args.w c.args.k c.args.order.now c.args.labels.now c.args.counts.now ≡ Fine =
+    sym c.tests-tests.ensures ∙ c.in_default.is in
+    let passed : Fit c.args.n c.args.w c.args.k c.args.order.now c.args.labels.now c.args.counts.now = fit _ _ _ _ _ _ fine in
+    let bytes : c.size-size.result ≡ length
+    (file_of c.args.n c.args.w c.args.k c.args.order.now c.args.labels.now c.args.counts.now) = c.size-size.ensures
+    ∙ sym (file_bytes _ _ _ _ _ _ passed) in
+    let inside : (c.args.start ≤ length c.args.out.now) × (c.size-size.result ≤ length c.args.out.now - c.args.start) =
+    out_held _ _ _ (sym c.out_fits-fits.ensures ∙ c.if-not-fits.false) in
     let (h, l) = inside in
-    back c.args.out.now _ _ c.args.start c.size-size.result c.fill.ensures (bytes)
-    ∙ sym (write_filled _ _ _ _ _ _ _ _ (fine) (out_fits_lem _ _ _ h (le_trans (le_of_eq (sym (bytes))) l)))
+    back c.args.out.now _ _ c.args.start c.size-size.result c.fill.ensures bytes
+    ∙ sym (write_filled _ _ _ _ _ _ _ _ fine (out_fits_lem _ _ _ h (le_trans (le_of_eq (sym bytes)) l)))

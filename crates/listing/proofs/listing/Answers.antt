@@ -10,7 +10,8 @@ use Rattle.listing.specs.Listing.{listed_in}
 use Rattle.listing.proofs.listing.Goals as goal
 
 -- the room by its front and what is behind it
-put_front : {room last text : List ℕ} {end : ℕ} → PutText room 0 text last end → (end ≡ length text) × (last ≡ text ++ drop (length text) room)
+put_front : {room last text : List ℕ} {end : ℕ} → PutText room 0 text last end → (end ≡ length text) ×
+    (last ≡ text ++ drop (length text) room)
 put_front {room} {last} {text} {end} p =
     let e : end ≡ length text = omega (arith, p.ends) in
     (e, sym (take-append-drop end last) ∙ (λ i. p.holds i ++ p.rest i) ∙ ap (λ (k : ℕ). text ++ drop k room) e)

@@ -22,4 +22,7 @@ pub clean-requires : goal.clean-requires
 clean-requires c = c.explore-tail.ensures.frames
 
 pub returns : goal.returns
-returns c = record { walked = walk_left c.requires.ready c.explore-tail.ensures.levels c.args.rank c.settle-walked.ensures.value c.settle-walked.ensures.laid c.clean.ensures.met_after c.clean.ensures.queue_after; notes = c.explore-tail.ensures.notes }
+returns c = record {
+  walked = walk_left c.requires.ready c.explore-tail.ensures.levels c.args.rank c.settle-walked.ensures.value c.settle-walked.ensures.laid c.clean.ensures.met_after c.clean.ensures.queue_after;
+  notes = c.explore-tail.ensures.notes;
+}

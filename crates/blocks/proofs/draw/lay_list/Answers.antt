@@ -1,5 +1,4 @@
 -- The goals that the search leaves.
-use Prim.Native.Nat.{◌-◌}
 use borrow.Author.Rules.{rules}
 use Rattle.blocks.proofs.draw.lay_list.Goals as goal
 use Rattle.blocks.proofs.draw.lay_list.Goals.{then-is_linked, else-is_linked}

@@ -1,5 +1,4 @@
 -- The goals that the search leaves.
-use Prim.Native.Nat.{◌-◌}
 use native.Mathlib.Omega.{arith}
 use Rattle.walk.proofs.RoomClear.{clear_none, clear_more, clear_all}
 use Rattle.build.proofs.clear.clear_labels.Goals as goal

@@ -10,23 +10,27 @@ use Rattle.rows.specs.Lookup.{part_told, row_told}
 use Rattle.capi.proofs.row_calls.seam_row.Goals as goal
 
 pub overflow_mul-start : goal.overflow_mul-start
-overflow_mul-start c = let fine : check_row c.args.n c.args.w c.args.labels.now c.args.counts.now c.args.v ≡ Fine = sym c.check_row.ensures.answer ∙ c.in-Fine.is in
-    record { fits = omega (arith, (checked_row _ _ _ _ _ (fine)).0.row.lies) }
+overflow_mul-start c = let fine : check_row c.args.n c.args.w c.args.labels.now c.args.counts.now c.args.v ≡ Fine =
+    sym c.check_row.ensures.answer ∙ c.in-Fine.is in
+    record { fits = omega (arith, (checked_row _ _ _ _ _ fine).0.row.lies) }
 
 pub offset_bounds-counts-v : goal.offset_bounds-counts-v
-offset_bounds-counts-v c = let fine : check_row c.args.n c.args.w c.args.labels.now c.args.counts.now c.args.v ≡ Fine = sym c.check_row.ensures.answer ∙ c.in-Fine.is in
-    record { fits = omega (arith, (checked_row _ _ _ _ _ (fine)).0.row.counted) }
+offset_bounds-counts-v c = let fine : check_row c.args.n c.args.w c.args.labels.now c.args.counts.now c.args.v ≡ Fine =
+    sym c.check_row.ensures.answer ∙ c.in-Fine.is in
+    record { fits = omega (arith, (checked_row _ _ _ _ _ fine).0.row.counted) }
 
 pub bounds-counts-v : goal.bounds-counts-v
-bounds-counts-v c = let fine : check_row c.args.n c.args.w c.args.labels.now c.args.counts.now c.args.v ≡ Fine = sym c.check_row.ensures.answer ∙ c.in-Fine.is in
-    (checked_row _ _ _ _ _ (fine)).0.row.counted
+bounds-counts-v c = let fine : check_row c.args.n c.args.w c.args.labels.now c.args.counts.now c.args.v ≡ Fine =
+    sym c.check_row.ensures.answer ∙ c.in-Fine.is in
+    (checked_row _ _ _ _ _ fine).0.row.counted
 
 pub overflow_cast-count : goal.overflow_cast-count
 overflow_cast-count c = omega (arith, c.type_inv.counts c.args.v)
 
 pub returns-in-Fine : goal.returns-in-Fine
 unfolding row_told part_told if_fine
-returns-in-Fine c = let fine : check_row c.args.n c.args.w c.args.labels.now c.args.counts.now c.args.v ≡ Fine = sym c.check_row.ensures.answer ∙ c.in-Fine.is in
+returns-in-Fine c = let fine : check_row c.args.n c.args.w c.args.labels.now c.args.counts.now c.args.v ≡ Fine =
+    sym c.check_row.ensures.answer ∙ c.in-Fine.is in
     let e = fine in
     let (row, start) = row_by _ _ _ _ _ e in
     rw (e, row, start, (checked_row _ _ _ _ _ e).1)

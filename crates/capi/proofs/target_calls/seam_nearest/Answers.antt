@@ -10,5 +10,6 @@ pub returns : goal.returns
 returns c =
     c.tell_nearest.ensures
     ∙ ap nearest_told
-    (ap (λ (l : Listed). nearest_of c.args.n c.args.w c.args.labels.now c.args.counts.now c.args.asked (frames_in l)) c.take_apart.ensures
+    (ap (λ (l : Listed). nearest_of c.args.n c.args.w c.args.labels.now c.args.counts.now c.args.asked
+    (frames_in l)) c.take_apart.ensures
     ∙ nearest_listed _ _ _ _ _ _)

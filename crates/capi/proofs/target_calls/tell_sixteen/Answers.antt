@@ -19,7 +19,8 @@ by_told Fine sixteen e = ap (λ (t : Told). tells t.number t.place sixteen) e
 by_told (Refused r) sixteen e = ap (λ (t : Told). tells t.number t.place (replicate 16 0)) e
 
 all_told : (n w : ℕ) (labels counts fs : List ℕ) {s : SixteenCounts} {number place : ℕ} → s ≡ sixteen_of n w labels counts fs
-    → tells number place [] ≡ verdict_told s.verdict → tells number place s.counts ≡ sixteen_told (sixteen_of n w labels counts fs)
+    → tells number place [] ≡ verdict_told s.verdict → tells number place s.counts ≡ sixteen_told
+    (sixteen_of n w labels counts fs)
 unfolding sixteen_of sixteen_by sixteen_told
 all_told n w labels counts fs {s} {number} {place} same e =
     ap (λ (t : SixteenCounts). tells number place t.counts) same

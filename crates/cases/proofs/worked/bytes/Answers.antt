@@ -1,5 +1,4 @@
 -- The goals that the search leaves.
-use Prim.Native.Nat.{◌-◌}
 use Rattle.cases.proofs.worked.bytes.Goals as goal
 
 pub loop-i-init : goal.loop-i-init

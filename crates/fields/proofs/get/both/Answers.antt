@@ -25,11 +25,13 @@ unfolding byte_len
 get-joins-requires c = (search rules, omega (arith, c.requires.1))
 
 pub overflow_mul-result : goal.overflow_mul-result
-overflow_mul-result c = let rank_lt : c.get-rank.result < 4096 = omega (arith, c.get-rank.ensures, field_lt c.args.bytes.now c.args.p 12) in
+overflow_mul-result c = let rank_lt : c.get-rank.result < 4096 = omega
+    (arith, c.get-rank.ensures, field_lt c.args.bytes.now c.args.p 12) in
     omega (arith, rank_lt)
 
 pub overflow_add-result : goal.overflow_add-result
-overflow_add-result c = let rank_lt : c.get-rank.result < 4096 = omega (arith, c.get-rank.ensures, field_lt c.args.bytes.now c.args.p 12) in
+overflow_add-result c = let rank_lt : c.get-rank.result < 4096 = omega
+    (arith, c.get-rank.ensures, field_lt c.args.bytes.now c.args.p 12) in
     let joins-lt : c.get-joins.result < 4096 = omega (arith, c.get-joins.ensures, field_lt c.args.bytes.now (c.args.p + 12) 12) in
     omega (arith, rank_lt, joins-lt)
 

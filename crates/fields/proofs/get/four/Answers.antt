@@ -1,7 +1,6 @@
 -- The four bytes are the last bits of the bytes up to there; the field is cut out of them.
-use Prim.Native.Nat.{ℕ, ◌+◌, ◌/◌, ◌<◌}
+use Prim.Native.Nat.{◌+◌, ◌/◌}
 use native.Mathlib.Omega.{arith}
-use lib.ListN.{get_or}
 use Rattle.fields.proofs.Gather.{four_bytes}
 use Rattle.fields.proofs.get.four.Goals as goal
 
@@ -18,28 +17,58 @@ pub overflow_cast-fourth : goal.overflow_cast-fourth
 overflow_cast-fourth c = omega (arith, c.type_inv.bytes (c.args.p / 8 + 3))
 
 pub overflow_mul-sum : goal.overflow_mul-sum
-overflow_mul-sum c = let bytes_lt : let at = c.args.p / 8 in (get_or c.args.bytes.now at 0 < 256) × (get_or c.args.bytes.now (at + 1) 0 < 256) × (get_or c.args.bytes.now (at + 2) 0 < 256) × (get_or c.args.bytes.now (at + 3) 0 < 256) = let at : ℕ = c.args.p / 8 in (omega (arith, c.type_inv.bytes at), omega (arith, c.type_inv.bytes (at + 1)), omega (arith, c.type_inv.bytes (at + 2)), omega (arith, c.type_inv.bytes (at + 3))) in
-    omega (arith, bytes_lt)
+overflow_mul-sum c = omega (
+  arith,
+  c.type_inv.bytes (c.args.p / 8),
+  c.type_inv.bytes (c.args.p / 8 + 1),
+  c.type_inv.bytes (c.args.p / 8 + 2),
+  c.type_inv.bytes (c.args.p / 8 + 3),
+)
 
 pub overflow_mul-sum-2 : goal.overflow_mul-sum-2
-overflow_mul-sum-2 c = let bytes_lt : let at = c.args.p / 8 in (get_or c.args.bytes.now at 0 < 256) × (get_or c.args.bytes.now (at + 1) 0 < 256) × (get_or c.args.bytes.now (at + 2) 0 < 256) × (get_or c.args.bytes.now (at + 3) 0 < 256) = let at : ℕ = c.args.p / 8 in (omega (arith, c.type_inv.bytes at), omega (arith, c.type_inv.bytes (at + 1)), omega (arith, c.type_inv.bytes (at + 2)), omega (arith, c.type_inv.bytes (at + 3))) in
-    omega (arith, bytes_lt)
+overflow_mul-sum-2 c = omega (
+  arith,
+  c.type_inv.bytes (c.args.p / 8),
+  c.type_inv.bytes (c.args.p / 8 + 1),
+  c.type_inv.bytes (c.args.p / 8 + 2),
+  c.type_inv.bytes (c.args.p / 8 + 3),
+)
 
 pub overflow_add-sum : goal.overflow_add-sum
-overflow_add-sum c = let bytes_lt : let at = c.args.p / 8 in (get_or c.args.bytes.now at 0 < 256) × (get_or c.args.bytes.now (at + 1) 0 < 256) × (get_or c.args.bytes.now (at + 2) 0 < 256) × (get_or c.args.bytes.now (at + 3) 0 < 256) = let at : ℕ = c.args.p / 8 in (omega (arith, c.type_inv.bytes at), omega (arith, c.type_inv.bytes (at + 1)), omega (arith, c.type_inv.bytes (at + 2)), omega (arith, c.type_inv.bytes (at + 3))) in
-    omega (arith, bytes_lt)
+overflow_add-sum c = omega (
+  arith,
+  c.type_inv.bytes (c.args.p / 8),
+  c.type_inv.bytes (c.args.p / 8 + 1),
+  c.type_inv.bytes (c.args.p / 8 + 2),
+  c.type_inv.bytes (c.args.p / 8 + 3),
+)
 
 pub overflow_mul-sum-3 : goal.overflow_mul-sum-3
-overflow_mul-sum-3 c = let bytes_lt : let at = c.args.p / 8 in (get_or c.args.bytes.now at 0 < 256) × (get_or c.args.bytes.now (at + 1) 0 < 256) × (get_or c.args.bytes.now (at + 2) 0 < 256) × (get_or c.args.bytes.now (at + 3) 0 < 256) = let at : ℕ = c.args.p / 8 in (omega (arith, c.type_inv.bytes at), omega (arith, c.type_inv.bytes (at + 1)), omega (arith, c.type_inv.bytes (at + 2)), omega (arith, c.type_inv.bytes (at + 3))) in
-    omega (arith, bytes_lt)
+overflow_mul-sum-3 c = omega (
+  arith,
+  c.type_inv.bytes (c.args.p / 8),
+  c.type_inv.bytes (c.args.p / 8 + 1),
+  c.type_inv.bytes (c.args.p / 8 + 2),
+  c.type_inv.bytes (c.args.p / 8 + 3),
+)
 
 pub overflow_add-sum-2 : goal.overflow_add-sum-2
-overflow_add-sum-2 c = let bytes_lt : let at = c.args.p / 8 in (get_or c.args.bytes.now at 0 < 256) × (get_or c.args.bytes.now (at + 1) 0 < 256) × (get_or c.args.bytes.now (at + 2) 0 < 256) × (get_or c.args.bytes.now (at + 3) 0 < 256) = let at : ℕ = c.args.p / 8 in (omega (arith, c.type_inv.bytes at), omega (arith, c.type_inv.bytes (at + 1)), omega (arith, c.type_inv.bytes (at + 2)), omega (arith, c.type_inv.bytes (at + 3))) in
-    omega (arith, bytes_lt)
+overflow_add-sum-2 c = omega (
+  arith,
+  c.type_inv.bytes (c.args.p / 8),
+  c.type_inv.bytes (c.args.p / 8 + 1),
+  c.type_inv.bytes (c.args.p / 8 + 2),
+  c.type_inv.bytes (c.args.p / 8 + 3),
+)
 
 pub overflow_add-sum-3 : goal.overflow_add-sum-3
-overflow_add-sum-3 c = let bytes_lt : let at = c.args.p / 8 in (get_or c.args.bytes.now at 0 < 256) × (get_or c.args.bytes.now (at + 1) 0 < 256) × (get_or c.args.bytes.now (at + 2) 0 < 256) × (get_or c.args.bytes.now (at + 3) 0 < 256) = let at : ℕ = c.args.p / 8 in (omega (arith, c.type_inv.bytes at), omega (arith, c.type_inv.bytes (at + 1)), omega (arith, c.type_inv.bytes (at + 2)), omega (arith, c.type_inv.bytes (at + 3))) in
-    omega (arith, bytes_lt)
+overflow_add-sum-3 c = omega (
+  arith,
+  c.type_inv.bytes (c.args.p / 8),
+  c.type_inv.bytes (c.args.p / 8 + 1),
+  c.type_inv.bytes (c.args.p / 8 + 2),
+  c.type_inv.bytes (c.args.p / 8 + 3),
+)
 
 pub returns : goal.returns
 returns c = four_bytes _ c.args.p (λ i. omega (arith, c.type_inv.bytes i)) c.requires.1

@@ -1,5 +1,5 @@
 -- The goals that the search leaves.
-use Prim.Native.Nat.{ℕ, ◌-◌, ◌/◌, ◌^◌, ◌<◌}
+use Prim.Native.Nat.{ℕ, ◌/◌, ◌^◌, ◌<◌}
 use mathlib.Core.Path.{◌∙◌}
 use native.Mathlib.Omega.{arith}
 use lib.Pow.{shr_le}
@@ -31,10 +31,12 @@ loop-at-preserved c = gather_more (λ i. omega (arith, c.type_inv.bytes i)) (ome
     c.loop-at.invariant
 
 pub overflow_sub-result : goal.overflow_sub-result
-overflow_sub-result c = let top : (k : ℕ) → c.loop-at.sum / 2 ^ k < 2 ^ 64 = λ k. omega (arith, shr_le c.loop-at.sum k, gather_lt 3 c.loop-at.invariant (omega arith)) in
+overflow_sub-result c = let top : (k : ℕ) → c.loop-at.sum / 2 ^ k < 2 ^ 64 = λ k. omega
+    (arith, shr_le c.loop-at.sum k, gather_lt 3 c.loop-at.invariant (omega arith)) in
     (cut _ c.args.width (top _)).0
 
 pub returns : goal.returns
-returns c = let top : (k : ℕ) → c.loop-at.sum / 2 ^ k < 2 ^ 64 = λ k. omega (arith, shr_le c.loop-at.sum k, gather_lt 3 c.loop-at.invariant (omega arith)) in
+returns c = let top : (k : ℕ) → c.loop-at.sum / 2 ^ k < 2 ^ 64 = λ k. omega
+    (arith, shr_le c.loop-at.sum k, gather_lt 3 c.loop-at.invariant (omega arith)) in
     (cut _ c.args.width (top _)).1
     ∙ gather_done _ _ _ c.requires.1 c.loop-at.invariant c.loop-at-test.false

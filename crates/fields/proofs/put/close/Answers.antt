@@ -26,7 +26,8 @@ module _ (o : List ℕ) (p : Pen) (r : Ready o p []) where
         long = refl;
         whole =
             ap (λ (k : ℕ). val (take k o)) bytes
-            ∙ sym (ap₂ (λ (k x : ℕ). (val (take p.at o) * 2 ^ k + x) * 2 ^ (8 * ((pen_bits p + 7) / 8) - pen_bits p)) zero_bits none
+            ∙ sym (ap₂ (λ (k x : ℕ). (val (take p.at o) * 2 ^ k + x) * 2 ^
+            (8 * ((pen_bits p + 7) / 8) - pen_bits p)) zero_bits none
             ∙ ap (λ (k : ℕ). (val (take p.at o) * 1 + 0) * 2 ^ k) pad ∙ omega arith);
       }
 
@@ -56,7 +57,8 @@ module _ (o : List ℕ) (p : Pen) (r : Ready o p []) where
       record {
         long = length-set o p.at last;
         whole =
-            ap (λ (k : ℕ). val (take k (set o p.at last))) bytes ∙ ap val (take-suc-set o p.at last (inside h)) ∙ val_snoc (take p.at o) last
+            ap (λ (k : ℕ). val (take k (set o p.at last))) bytes ∙ ap val (take-suc-set o p.at last (inside h))
+            ∙ val_snoc (take p.at o) last
             ∙ ap₂ (λ (x y : ℕ). F * x + y) power moved
             ∙ omega (arith, horner F p.acc 0 (2 ^ p.nb) (2 ^ (8 - p.nb)))
             ∙ ap (λ (k : ℕ). (F * 2 ^ p.nb + p.acc) * 2 ^ k) (sym pad);

@@ -43,7 +43,11 @@ pub overflow_add-nb : goal.overflow_add-nb
 overflow_add-nb c = omega (arith, c.requires.1, c.requires.0.small)
 
 pub loop-nb-init : goal.loop-nb-init
-loop-nb-init c = (omega (arith, c.requires.1, c.requires.0.small), byte_none c.requires.0 _ (alone _ _) (is_whole c.requires.0 c.requires.1))
+loop-nb-init c = (
+  omega (arith, c.requires.1, c.requires.0.small),
+  byte_none c.requires.0 _ (alone _ _)
+      (is_whole c.requires.0 c.requires.1),
+)
 
 pub overflow_shr-byte : goal.overflow_shr-byte
 overflow_shr-byte c = omega (arith, c.loop-nb.invariant.0)
@@ -52,7 +56,11 @@ pub bounds-out-at : goal.bounds-out-at
 bounds-out-at c = byte_room c.loop-nb.invariant.1 (c.loop-nb.nb - 8) (omega (arith, c.loop-nb-test.true))
 
 pub loop-nb-preserved : goal.loop-nb-preserved
-loop-nb-preserved c = (omega (arith, c.loop-nb.invariant.0), byte_step c.loop-nb.invariant.1 (c.loop-nb.nb - 8) (omega (arith, c.loop-nb-test.true)) _ refl)
+loop-nb-preserved c = (
+  omega (arith, c.loop-nb.invariant.0),
+  byte_step c.loop-nb.invariant.1 (c.loop-nb.nb - 8)
+      (omega (arith, c.loop-nb-test.true)) _ refl,
+)
 
 pub overflow_shr-top : goal.overflow_shr-top
 overflow_shr-top c = omega (arith, c.loop-nb.invariant.0)
@@ -67,4 +75,5 @@ pub shape_of-out : goal.shape_of-out
 shape_of-out c = c.loop-nb.invariant.1.long
 
 pub returns : goal.returns
-returns c = byte_end c.requires.0 _ (alone _ _) c.loop-nb.invariant.1 c.loop-nb-test.false (cut _ _ (whole-fits c.requires.0 c.requires.1)).1
+returns c = byte_end c.requires.0 _ (alone _ _) c.loop-nb.invariant.1 c.loop-nb-test.false
+    (cut _ _ (whole-fits c.requires.0 c.requires.1)).1

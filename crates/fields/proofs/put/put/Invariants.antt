@@ -1,6 +1,6 @@
 -- One field. The invariant: the bytes stored and the bits left of the whole number are what was to be put. A turn stores
 -- the next eight bits; their number falls.
-use Prim.Native.Nat.{◌+◌, ◌-◌, ◌*◌, ◌≤◌}
+use Prim.Native.Nat.{◌+◌, ◌*◌, ◌≤◌}
 use mathlib.Core.List.{[], ◌∷◌}
 use Rattle.fields.specs.Bits.{num, field}
 use Rattle.fields.specs.Inner.{pen_num}

@@ -1,5 +1,4 @@
 -- The goals that the search leaves.
-use Prim.Native.Nat.{◌-◌}
 use native.Mathlib.Omega.{arith}
 use native.Mathlib.Nat.{sub-zero}
 use Rattle.fields.proofs.LayoutLaws.{fields_next, fields_end}
@@ -13,7 +12,11 @@ pub put_entry-tip-requires : goal.put_entry-tip-requires
 put_entry-tip-requires c = left_ready c.loop-i.invariant.1 _ _ (fields_next _ c.loop-i.i _ c.loop-i-test.true)
 
 pub loop-i-preserved : goal.loop-i-preserved
-loop-i-preserved c = (omega arith, left_step c.loop-i.invariant.1 _ _ (fields_next _ c.loop-i.i _ c.loop-i-test.true) c.put_entry-tip.ensures)
+loop-i-preserved c = (
+  omega arith,
+  left_step c.loop-i.invariant.1 _ _
+      (fields_next _ c.loop-i.i _ c.loop-i-test.true) c.put_entry-tip.ensures,
+)
 
 pub shape_of-out : goal.shape_of-out
 shape_of-out c = c.loop-i.invariant.1.long

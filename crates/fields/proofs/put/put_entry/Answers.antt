@@ -89,36 +89,44 @@ module _ {e : ℕ} {o : List ℕ} {p : Pen} {rank joins : ℕ} (g : Given e o p 
 
   put_all : Put o p (entry_fields e) (third o p (whole_of p.acc rank joins))
       (record { at = p.at + 3; acc = both_of rank joins - both_of rank joins / 2 ^ p.nb * 2 ^ p.nb % 2 ^ 64; nb = p.nb })
-  put_all = byte_end g.ready 24 (pair_bits e) three g.ready.small ((cut (both_of rank joins) p.nb (omega (arith, both-lt))).1 ∙ last)
+  put_all = byte_end g.ready 24 (pair_bits e) three g.ready.small
+      ((cut (both_of rank joins) p.nb (omega (arith, both-lt))).1 ∙ last)
 
 pub overflow_add-both : goal.overflow_add-both
-overflow_add-both c = let given : Given c.args.e c.args.out.now c.args.pen c.rank_of-rank.result c.joins_of-joins.result = record { ready = c.requires; its-rank = c.rank_of-rank.ensures; its-joins = c.joins_of-joins.ensures } in
-    let b = both-lt (given) in omega arith
+overflow_add-both c = let given : Given c.args.e c.args.out.now c.args.pen c.rank_of-rank.result c.joins_of-joins.result =
+    record { ready = c.requires; its-rank = c.rank_of-rank.ensures; its-joins = c.joins_of-joins.ensures } in
+    let b = both-lt given in omega arith
 
 pub overflow_add-whole : goal.overflow_add-whole
-overflow_add-whole c = let given : Given c.args.e c.args.out.now c.args.pen c.rank_of-rank.result c.joins_of-joins.result = record { ready = c.requires; its-rank = c.rank_of-rank.ensures; its-joins = c.joins_of-joins.ensures } in
-    record { fits = whole-fits (given) }
+overflow_add-whole c = let given : Given c.args.e c.args.out.now c.args.pen c.rank_of-rank.result c.joins_of-joins.result =
+    record { ready = c.requires; its-rank = c.rank_of-rank.ensures; its-joins = c.joins_of-joins.ensures } in
+    record { fits = whole-fits given }
 
 pub bounds-out-at : goal.bounds-out-at
-bounds-out-at c = let given : Given c.args.e c.args.out.now c.args.pen c.rank_of-rank.result c.joins_of-joins.result = record { ready = c.requires; its-rank = c.rank_of-rank.ensures; its-joins = c.joins_of-joins.ensures } in
-    byte_room (none (given))
+bounds-out-at c = let given : Given c.args.e c.args.out.now c.args.pen c.rank_of-rank.result c.joins_of-joins.result =
+    record { ready = c.requires; its-rank = c.rank_of-rank.ensures; its-joins = c.joins_of-joins.ensures } in
+    byte_room (none given)
     (c.args.pen.nb + 16) (omega arith)
 
 pub bounds-out-at-2 : goal.bounds-out-at-2
-bounds-out-at-2 c = let given : Given c.args.e c.args.out.now c.args.pen c.rank_of-rank.result c.joins_of-joins.result = record { ready = c.requires; its-rank = c.rank_of-rank.ensures; its-joins = c.joins_of-joins.ensures } in
-    byte_room (one (given))
+bounds-out-at-2 c = let given : Given c.args.e c.args.out.now c.args.pen c.rank_of-rank.result c.joins_of-joins.result =
+    record { ready = c.requires; its-rank = c.rank_of-rank.ensures; its-joins = c.joins_of-joins.ensures } in
+    byte_room (one given)
     (c.args.pen.nb + 8) (omega arith)
 
 pub bounds-out-at-3 : goal.bounds-out-at-3
-bounds-out-at-3 c = let given : Given c.args.e c.args.out.now c.args.pen c.rank_of-rank.result c.joins_of-joins.result = record { ready = c.requires; its-rank = c.rank_of-rank.ensures; its-joins = c.joins_of-joins.ensures } in
-    byte_room (two (given))
+bounds-out-at-3 c = let given : Given c.args.e c.args.out.now c.args.pen c.rank_of-rank.result c.joins_of-joins.result =
+    record { ready = c.requires; its-rank = c.rank_of-rank.ensures; its-joins = c.joins_of-joins.ensures } in
+    byte_room (two given)
     c.args.pen.nb (omega arith)
 
 pub overflow_sub-acc : goal.overflow_sub-acc
-overflow_sub-acc c = let given : Given c.args.e c.args.out.now c.args.pen c.rank_of-rank.result c.joins_of-joins.result = record { ready = c.requires; its-rank = c.rank_of-rank.ensures; its-joins = c.joins_of-joins.ensures } in
-    let b = both-lt (given) in
+overflow_sub-acc c = let given : Given c.args.e c.args.out.now c.args.pen c.rank_of-rank.result c.joins_of-joins.result =
+    record { ready = c.requires; its-rank = c.rank_of-rank.ensures; its-joins = c.joins_of-joins.ensures } in
+    let b = both-lt given in
     (cut (both_of c.rank_of-rank.result c.joins_of-joins.result) c.args.pen.nb (omega arith)).0
 
 pub returns : goal.returns
-returns c = let given : Given c.args.e c.args.out.now c.args.pen c.rank_of-rank.result c.joins_of-joins.result = record { ready = c.requires; its-rank = c.rank_of-rank.ensures; its-joins = c.joins_of-joins.ensures } in
-    put_all (given)
+returns c = let given : Given c.args.e c.args.out.now c.args.pen c.rank_of-rank.result c.joins_of-joins.result =
+    record { ready = c.requires; its-rank = c.rank_of-rank.ensures; its-joins = c.joins_of-joins.ensures } in
+    put_all given

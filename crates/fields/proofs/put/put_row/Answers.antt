@@ -21,9 +21,18 @@ pub put-counted-requires : goal.put-counted-requires
 put-counted-requires c = (next_ready (begun c.args.w c.args.labels.now c.args.counts.now c.args.v c.requires.0), omega arith)
 
 pub put_entries-requires : goal.put_entries-requires
-put_entries-requires c = let counted : let count : ℕ = get_or c.args.counts.now c.args.v 0 in Left c.args.out.now c.args.pen (row_fields c.args.w c.args.labels.now c.args.counts.now c.args.v) c.put-counted.new.out c.put-counted.result (entries_fields (take (c.args.v * c.args.w + count - c.args.v * c.args.w) (drop (c.args.v * c.args.w) c.args.labels.now))) = next_step (begun c.args.w c.args.labels.now c.args.counts.now c.args.v c.requires.0) c.put-counted.ensures in
-    (counted).ready
+put_entries-requires c = let counted : let count : ℕ =
+    get_or c.args.counts.now c.args.v 0 in Left c.args.out.now c.args.pen
+    (row_fields c.args.w c.args.labels.now c.args.counts.now c.args.v) c.put-counted.new.out c.put-counted.result
+    (entries_fields (take (c.args.v * c.args.w + count - c.args.v * c.args.w)
+    (drop (c.args.v * c.args.w) c.args.labels.now))) = next_step
+    (begun c.args.w c.args.labels.now c.args.counts.now c.args.v c.requires.0) c.put-counted.ensures in
+    counted.ready
 
 pub returns : goal.returns
-returns c = let counted : let count : ℕ = get_or c.args.counts.now c.args.v 0 in Left c.args.out.now c.args.pen (row_fields c.args.w c.args.labels.now c.args.counts.now c.args.v) c.put-counted.new.out c.put-counted.result (entries_fields (take (c.args.v * c.args.w + count - c.args.v * c.args.w) (drop (c.args.v * c.args.w) c.args.labels.now))) = next_step (begun c.args.w c.args.labels.now c.args.counts.now c.args.v c.requires.0) c.put-counted.ensures in
-    left_step (counted) _ [] (sym (append-nil _)) c.put_entries.ensures
+returns c = let counted : let count : ℕ = get_or c.args.counts.now c.args.v 0 in Left c.args.out.now c.args.pen
+    (row_fields c.args.w c.args.labels.now c.args.counts.now c.args.v) c.put-counted.new.out c.put-counted.result
+    (entries_fields (take (c.args.v * c.args.w + count - c.args.v * c.args.w)
+    (drop (c.args.v * c.args.w) c.args.labels.now))) = next_step
+    (begun c.args.w c.args.labels.now c.args.counts.now c.args.v c.requires.0) c.put-counted.ensures in
+    left_step counted _ [] (sym (append-nil _)) c.put_entries.ensures

@@ -1,5 +1,5 @@
 -- The goals that the search leaves.
-use Prim.Native.Nat.{◌-◌, ◌<◌}
+use Prim.Native.Nat.{◌<◌}
 use native.Mathlib.Omega.{arith}
 use native.Mathlib.Nat.{sub-zero}
 use Rattle.fields.proofs.LayoutLaws.{fields_next, fields_end}
@@ -16,7 +16,11 @@ put_row-tip-requires c = let t : c.loop-v.v < c.args.n = c.loop-v-test.true in (
 )
 
 pub loop-v-preserved : goal.loop-v-preserved
-loop-v-preserved c = (omega arith, left_step c.loop-v.invariant.1 _ _ (fields_next _ c.loop-v.v _ c.loop-v-test.true) c.put_row-tip.ensures)
+loop-v-preserved c = (
+  omega arith,
+  left_step c.loop-v.invariant.1 _ _
+      (fields_next _ c.loop-v.v _ c.loop-v-test.true) c.put_row-tip.ensures,
+)
 
 pub shape_of-out : goal.shape_of-out
 shape_of-out c = c.loop-v.invariant.1.long

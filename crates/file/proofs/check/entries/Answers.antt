@@ -1,12 +1,10 @@
 -- The goals that the search leaves.
 use Prim.Native.Nat.{ℕ, ◌+◌, ◌-◌}
 use mathlib.Core.Path.{◌≡◌, sym, ap, ap₂, ◌∙◌}
-use mathlib.Core.List.{List}
 use native.Mathlib.Omega.{arith}
 use native.Mathlib.Nat.{sub_self, sub-zero}
 use native.Mathlib.Numerals.{add-one}
 use Rattle.refusal.proofs.Laws.{tests_stop, tests_on, tests_end}
-use Rattle.refusal.specs.declared.Verdict.{Verdict}
 use Rattle.fields.specs.Bits.{field_at}
 use Rattle.file.specs.Reader.{entry_test, low_at, entries_from}
 use Rattle.file.proofs.Steps.{went_on, stopped, verdict_refused}
@@ -29,7 +27,8 @@ verdict-requires c = tt
 pub returns-in_default : goal.returns-in_default
 returns-in_default c = let (_, at, low, all) = c.loop-left.invariant in
     c.verdict.ensures ∙ verdict_refused c.in_default.is
-    ∙ sym (tests_stop _ _ _ (omega arith) (ap₂ (entry_test _ _ _) (sym at) (sym low) ∙ stopped _ _ (sym c.in_default.is ∙ c.entry-got.ensures)))
+    ∙ sym (tests_stop _ _ _ (omega arith) (ap₂ (entry_test _ _ _) (sym at) (sym low) ∙ stopped _ _
+    (sym c.in_default.is ∙ c.entry-got.ensures)))
     ∙ all
 
 pub overflow_add-low : goal.overflow_add-low

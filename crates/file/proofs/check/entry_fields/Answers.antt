@@ -11,19 +11,30 @@ use Rattle.file.proofs.Steps.{step_fine, step_refused, went_on, below, stopped}
 use Rattle.file.proofs.check.entry_fields.Goals as goal
 
 pub returns-in_default : goal.returns-in_default
-returns-in_default c = c.in_default.is ∙ step_refused _ (entry_rank _ _ _ _ _ (stopped _ _ (sym c.in_default.is ∙ c.field-got.ensures)))
+returns-in_default c = c.in_default.is ∙ step_refused _ (entry_rank _ _ _ _ _
+    (stopped _ _ (sym c.in_default.is ∙ c.field-got.ensures)))
 
 pub returns-then-rank-low : goal.returns-then-rank-low
-returns-then-rank-low c = let ranked : (short_test c.args.bytes.now c.args.p 12 ≡ Verdict.Fine) × (c.in-On.rank ≡ field_at c.args.bytes.now c.args.p 12) × (c.in-On.rank < c.args.k) = below _ _ _ _ (sym c.in-On.is ∙ c.field-got.ensures) in
+returns-then-rank-low c = let ranked : (short_test c.args.bytes.now c.args.p 12 ≡ Verdict.Fine) ×
+    (c.in-On.rank ≡ field_at c.args.bytes.now c.args.p 12) × (c.in-On.rank < c.args.k) = below _ _ _ _
+    (sym c.in-On.is ∙ c.field-got.ensures) in
     let (e, is, high) = ranked in
     c.stop.ensures ∙ step_refused _ (entry_low _ _ _ _ _ e (omega (arith, c.if-rank-low.true)))
 
 pub returns-in_default-more : goal.returns-in_default-more
-returns-in_default-more c = let ranked : (short_test c.args.bytes.now c.args.p 12 ≡ Verdict.Fine) × (c.in-On.rank ≡ field_at c.args.bytes.now c.args.p 12) × (c.in-On.rank < c.args.k) = below _ _ _ _ (sym c.in-On.is ∙ c.field-got.ensures) in
-    let left_over : entry_test c.args.bytes.now c.args.n c.args.k c.args.p c.args.low ≡ field_test c.args.bytes.now (c.args.p + 12) 12 (ltb (field_at c.args.bytes.now (c.args.p + 12) 12) c.args.n) = let (e, is, high) = ranked in entry_left _ _ _ _ _ e (omega (arith, c.if-rank-low.false)) (omega arith) in
+returns-in_default-more c = let ranked : (short_test c.args.bytes.now c.args.p 12 ≡ Verdict.Fine) ×
+    (c.in-On.rank ≡ field_at c.args.bytes.now c.args.p 12) × (c.in-On.rank < c.args.k) = below _ _ _ _
+    (sym c.in-On.is ∙ c.field-got.ensures) in
+    let left_over : entry_test c.args.bytes.now c.args.n c.args.k c.args.p c.args.low ≡ field_test c.args.bytes.now
+    (c.args.p + 12) 12 (ltb (field_at c.args.bytes.now (c.args.p + 12) 12) c.args.n) = let (e, is, high) =
+    ranked in entry_left _ _ _ _ _ e (omega (arith, c.if-rank-low.false)) (omega arith) in
     c.in_default-more.is ∙ step_refused _ (left_over ∙ stopped _ _ (sym c.in_default-more.is ∙ c.field-more.ensures))
 
 pub returns : goal.returns
-returns c = let ranked : (short_test c.args.bytes.now c.args.p 12 ≡ Verdict.Fine) × (c.in-On.rank ≡ field_at c.args.bytes.now c.args.p 12) × (c.in-On.rank < c.args.k) = below _ _ _ _ (sym c.in-On.is ∙ c.field-got.ensures) in
-    let left_over : entry_test c.args.bytes.now c.args.n c.args.k c.args.p c.args.low ≡ field_test c.args.bytes.now (c.args.p + 12) 12 (ltb (field_at c.args.bytes.now (c.args.p + 12) 12) c.args.n) = let (e, is, high) = ranked in entry_left _ _ _ _ _ e (omega (arith, c.if-rank-low.false)) (omega arith) in
-    step_fine (left_over ∙ (went_on _ _ (sym c.in-On-more.is ∙ c.field-more.ensures)).0) (ranked).1
+returns c = let ranked : (short_test c.args.bytes.now c.args.p 12 ≡ Verdict.Fine) ×
+    (c.in-On.rank ≡ field_at c.args.bytes.now c.args.p 12) × (c.in-On.rank < c.args.k) = below _ _ _ _
+    (sym c.in-On.is ∙ c.field-got.ensures) in
+    let left_over : entry_test c.args.bytes.now c.args.n c.args.k c.args.p c.args.low ≡ field_test c.args.bytes.now
+    (c.args.p + 12) 12 (ltb (field_at c.args.bytes.now (c.args.p + 12) 12) c.args.n) = let (e, is, high) =
+    ranked in entry_left _ _ _ _ _ e (omega (arith, c.if-rank-low.false)) (omega arith) in
+    step_fine (left_over ∙ (went_on _ _ (sym c.in-On-more.is ∙ c.field-more.ensures)).0) ranked.1

@@ -1,5 +1,4 @@
 -- The goals that the search leaves.
-use Prim.Native.Nat.{◌-◌}
 use mathlib.Core.Path.{sym, ap, ◌∙◌}
 use native.Mathlib.Omega.{arith}
 use Rattle.file.specs.Reader.{order_from}
@@ -18,7 +17,8 @@ pub order_field-got-requires : goal.order_field-got-requires
 order_field-got-requires c = (c.requires, c.loop-r-test.true, c.loop-r.invariant.1)
 
 pub returns-in_default : goal.returns-in_default
-returns-in_default c = c.in_default.is ∙ sym (tests_stop _ _ _ c.loop-r-test.true (sym c.order_field-got.ensures.found ∙ c.in_default.is)) ∙ c.loop-r.invariant.2
+returns-in_default c = c.in_default.is ∙ sym (tests_stop _ _ _ c.loop-r-test.true
+    (sym c.order_field-got.ensures.found ∙ c.in_default.is)) ∙ c.loop-r.invariant.2
 
 pub loop-r-preserved : goal.loop-r-preserved
 loop-r-preserved c = let e = sym c.order_field-got.ensures.found ∙ c.in-Fine.is in

@@ -21,24 +21,36 @@ returns-in_default c = let o = order_out _ c.args.n c.args.r (stopped _ _ (sym c
 
 pub bounds-seen-frame : goal.bounds-seen-frame
 unfolding frame_at
-bounds-seen-frame c = let framed : (short_test c.args.bytes.now (32 + 12 * c.args.r) 12 ≡ Verdict.Fine) × (c.in-On.frame ≡ frame_at c.args.bytes.now c.args.r) × (c.in-On.frame < c.args.n) = below _ _ _ _ (sym c.in-On.is ∙ c.field-got.ensures) in
-    omega (arith, (framed).2)
+bounds-seen-frame c = let framed : (short_test c.args.bytes.now (32 + 12 * c.args.r) 12 ≡ Verdict.Fine) ×
+    (c.in-On.frame ≡ frame_at c.args.bytes.now c.args.r) × (c.in-On.frame < c.args.n) = below _ _ _ _
+    (sym c.in-On.is ∙ c.field-got.ensures) in
+    omega (arith, framed.2)
 
 pub returns-then-seen-frame : goal.returns-then-seen-frame
 unfolding frame_at
-returns-then-seen-frame c = let framed : (short_test c.args.bytes.now (32 + 12 * c.args.r) 12 ≡ Verdict.Fine) × (c.in-On.frame ≡ frame_at c.args.bytes.now c.args.r) × (c.in-On.frame < c.args.n) = below _ _ _ _ (sym c.in-On.is ∙ c.field-got.ensures) in
+returns-then-seen-frame c = let framed : (short_test c.args.bytes.now (32 + 12 * c.args.r) 12 ≡ Verdict.Fine) ×
+    (c.in-On.frame ≡ frame_at c.args.bytes.now c.args.r) × (c.in-On.frame < c.args.n) = below _ _ _ _
+    (sym c.in-On.is ∙ c.field-got.ensures) in
     let (e, q, low) = framed in
     let o = order_again _ c.args.n c.args.r e (seen_says c.requires.2 q (omega arith) c.if-seen-frame.true) in
     record { found = c.refused.ensures ∙ sym o; noted = λ h. fine_not_refused (sym h ∙ o) }
 
 pub bounds-seen-frame-2 : goal.bounds-seen-frame-2
 unfolding frame_at
-bounds-seen-frame-2 c = let framed : (short_test c.args.bytes.now (32 + 12 * c.args.r) 12 ≡ Verdict.Fine) × (c.in-On.frame ≡ frame_at c.args.bytes.now c.args.r) × (c.in-On.frame < c.args.n) = below _ _ _ _ (sym c.in-On.is ∙ c.field-got.ensures) in
-    omega (arith, (framed).2)
+bounds-seen-frame-2 c = let framed : (short_test c.args.bytes.now (32 + 12 * c.args.r) 12 ≡ Verdict.Fine) ×
+    (c.in-On.frame ≡ frame_at c.args.bytes.now c.args.r) × (c.in-On.frame < c.args.n) = below _ _ _ _
+    (sym c.in-On.is ∙ c.field-got.ensures) in
+    omega (arith, framed.2)
 
 pub returns : goal.returns
 unfolding frame_at
-returns c = let framed : (short_test c.args.bytes.now (32 + 12 * c.args.r) 12 ≡ Verdict.Fine) × (c.in-On.frame ≡ frame_at c.args.bytes.now c.args.r) × (c.in-On.frame < c.args.n) = below _ _ _ _ (sym c.in-On.is ∙ c.field-got.ensures) in
+returns c = let framed : (short_test c.args.bytes.now (32 + 12 * c.args.r) 12 ≡ Verdict.Fine) ×
+    (c.in-On.frame ≡ frame_at c.args.bytes.now c.args.r) × (c.in-On.frame < c.args.n) = below _ _ _ _
+    (sym c.in-On.is ∙ c.field-got.ensures) in
     let (e, q, low) = framed in
     let new = seen_says c.requires.2 q (omega arith) c.if-seen-frame.false in
-    record { found = sym (order_legal _ c.args.n c.args.r e (omega arith) new); noted = λ h. seen_on c.requires.2 q (omega arith) }
+    record {
+      found = sym (order_legal _ c.args.n c.args.r e (omega arith) new);
+      noted = λ h. seen_on c.requires.2 q
+          (omega arith);
+    }

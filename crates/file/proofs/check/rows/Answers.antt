@@ -1,5 +1,4 @@
 -- The goals that the search leaves.
-use Prim.Native.Nat.{◌-◌}
 use mathlib.Core.Path.{◌≡◌, refl, sym, ap, ◌∙◌}
 use native.Mathlib.Omega.{arith}
 use native.Mathlib.Nat.{sub-zero}
@@ -22,7 +21,8 @@ returns-in_default c = let (_, at, left) = c.loop-v.invariant in
     c.in_default.is
     ∙ step_refused _
     (sym left
-    ∙ tests_stop _ _ _ c.loop-v-test.true (ap (row_fields_test _ _ _ _ _) (sym at) ∙ stopped _ _ (sym c.in_default.is ∙ c.row-got.ensures)))
+    ∙ tests_stop _ _ _ c.loop-v-test.true (ap (row_fields_test _ _ _ _ _) (sym at) ∙ stopped _ _
+    (sym c.in_default.is ∙ c.row-got.ensures)))
 
 pub loop-v-preserved : goal.loop-v-preserved
 unfolding row_bit

@@ -16,7 +16,11 @@ overflow_mul-n c = let p : c.args.n * c.args.w ≤ 4096 * 256 = mul-le-mul c.req
 
 pub returns-then-labels-n : goal.returns-then-labels-n
 unfolding lengths_fit
-returns-then-labels-n c = simp (eq-eqb c.args.order c.args.n c.if-order-n.false, ne_eqb c.args.labels (c.args.n * c.args.w) c.if-labels-n.true)
+returns-then-labels-n c = simp (
+  eq-eqb c.args.order c.args.n c.if-order-n.false,
+  ne_eqb c.args.labels
+      (c.args.n * c.args.w) c.if-labels-n.true,
+)
 
 pub returns : goal.returns
 unfolding lengths_fit

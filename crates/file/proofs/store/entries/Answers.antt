@@ -1,5 +1,4 @@
 -- The goals that the search leaves.
-use Prim.Native.Nat.{◌-◌}
 use mathlib.Core.Path.{ap, ◌∙◌}
 use native.Mathlib.Omega.{arith}
 use native.Mathlib.Nat.{add-sub_cancel_left}
@@ -21,7 +20,11 @@ entry-requires c = (omega arith, omega (arith, c.requires.there), omega (arith, 
 
 pub loop-at-preserved : goal.loop-at-preserved
 unfolding entry_from
-loop-at-preserved c = (omega arith, fill_more c.loop-at.invariant.1 c.loop-at-test.true c.entry.ensures (ap (entry_at _) c.loop-at.invariant.0))
+loop-at-preserved c = (
+  omega arith,
+  fill_more c.loop-at.invariant.1 c.loop-at-test.true c.entry.ensures
+      (ap (entry_at _) c.loop-at.invariant.0),
+)
 
 pub shape_of-labels : goal.shape_of-labels
 shape_of-labels c = c.loop-at.invariant.1.long

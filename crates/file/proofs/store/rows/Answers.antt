@@ -1,5 +1,4 @@
 -- The goals that the search leaves.
-use Prim.Native.Nat.{◌-◌}
 use mathlib.Core.Path.{refl}
 use native.Mathlib.Omega.{arith}
 use lib.ListN.{length}
@@ -21,20 +20,28 @@ pub overflow_cast-counts : goal.overflow_cast-counts
 overflow_cast-counts c = omega (arith, c.get-count.ensures, field_lt c.args.bytes.now c.loop-v.p 9)
 
 pub row-requires : goal.row-requires
-row-requires c = let counted : RowThere c.args.bytes.now c.loop-v.p c.get-count.result c.args.w (length c.loop-v.labels) c.loop-v.base = next_row c.requires c.loop-v.invariant c.loop-v-test.true c.get-count.ensures in
+row-requires c = let counted : RowThere c.args.bytes.now c.loop-v.p c.get-count.result c.args.w
+    (length c.loop-v.labels) c.loop-v.base =
+    next_row c.requires c.loop-v.invariant c.loop-v-test.true c.get-count.ensures in
     counted
 
 pub overflow_add-p-in-loop-v : goal.overflow_add-p-in-loop-v
-overflow_add-p-in-loop-v c = let counted : RowThere c.args.bytes.now c.loop-v.p c.get-count.result c.args.w (length c.loop-v.labels) c.loop-v.base = next_row c.requires c.loop-v.invariant c.loop-v-test.true c.get-count.ensures in
-    omega (arith, (counted).near)
+overflow_add-p-in-loop-v c = let counted : RowThere c.args.bytes.now c.loop-v.p c.get-count.result c.args.w
+    (length c.loop-v.labels) c.loop-v.base =
+    next_row c.requires c.loop-v.invariant c.loop-v-test.true c.get-count.ensures in
+    omega (arith, counted.near)
 
 pub overflow_mul-p-in-loop-v : goal.overflow_mul-p-in-loop-v
-overflow_mul-p-in-loop-v c = let counted : RowThere c.args.bytes.now c.loop-v.p c.get-count.result c.args.w (length c.loop-v.labels) c.loop-v.base = next_row c.requires c.loop-v.invariant c.loop-v-test.true c.get-count.ensures in
+overflow_mul-p-in-loop-v c = let counted : RowThere c.args.bytes.now c.loop-v.p c.get-count.result c.args.w
+    (length c.loop-v.labels) c.loop-v.base =
+    next_row c.requires c.loop-v.invariant c.loop-v-test.true c.get-count.ensures in
     let row = counted in
     omega (arith, row.fits, row.wide)
 
 pub overflow_add-p-in-loop-v-2 : goal.overflow_add-p-in-loop-v-2
-overflow_add-p-in-loop-v-2 c = let counted : RowThere c.args.bytes.now c.loop-v.p c.get-count.result c.args.w (length c.loop-v.labels) c.loop-v.base = next_row c.requires c.loop-v.invariant c.loop-v-test.true c.get-count.ensures in
+overflow_add-p-in-loop-v-2 c = let counted : RowThere c.args.bytes.now c.loop-v.p c.get-count.result c.args.w
+    (length c.loop-v.labels) c.loop-v.base =
+    next_row c.requires c.loop-v.invariant c.loop-v-test.true c.get-count.ensures in
     let row = counted in
     omega (arith, row.near, row.fits, row.wide)
 
@@ -51,4 +58,8 @@ pub shape_of-counts : goal.shape_of-counts
 shape_of-counts c = c.loop-v.invariant.counted.long
 
 pub returns : goal.returns
-returns c = record { labels = (rows_stored c.loop-v.invariant (omega arith)).0; counts = (rows_stored c.loop-v.invariant (omega arith)).1 }
+returns c = record {
+  labels = (rows_stored c.loop-v.invariant (omega arith)).0;
+  counts =
+      (rows_stored c.loop-v.invariant (omega arith)).1;
+}

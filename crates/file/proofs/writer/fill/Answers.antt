@@ -21,8 +21,10 @@ abbrev empty : Pen
 empty = record { at = 0; acc = 0; nb = 0 }
 
 -- a stretch as long as the packed fields has room for them
-begun : (o : List ℕ) (n w k : ℕ) (O labels counts : List ℕ) → Fit n w k O labels counts → length o ≡ length (file_of n w k O labels counts) →
-    Left o empty (file_fields n w k O labels counts) o empty (header_fields n k ++ (order_fields O ++ rows_fields w labels counts 0 n))
+begun : (o : List ℕ) (n w k : ℕ) (O labels counts : List ℕ) → Fit n w k O labels counts → length o ≡ length
+    (file_of n w k O labels counts) →
+    Left o empty (file_fields n w k O labels counts) o empty
+    (header_fields n k ++ (order_fields O ++ rows_fields w labels counts 0 n))
 unfolding file_of file_fields
 begun o n w k O labels counts f e =
     let fs : List Field = file_fields n w k O labels counts in
@@ -34,7 +36,8 @@ begun o n w k O labels counts f e =
     })
 
 -- all fields put, the last byte filled up: the stretch is the file
-ended : (o o1 o2 : List ℕ) (p : Pen) (fs : List Field) → length o ≡ length (packed fs) → Put o empty fs o1 p → Closed o1 p o2 → Bytes o2 → o2 ≡ packed fs
+ended : (o o1 o2 : List ℕ) (p : Pen) (fs : List Field) → length o ≡ length
+    (packed fs) → Put o empty fs o1 p → Closed o1 p o2 → Bytes o2 → o2 ≡ packed fs
 unfolding packed pen_num val bit_len num
 ended o o1 o2 p fs e u d b =
     let bits : pen_bits p ≡ bit_len fs = omega (arith, u.bits) in
@@ -46,26 +49,54 @@ ended o o1 o2 p fs e u d b =
     sym (val_bytes o2 b) ∙ ap₂ bytes_of long whole
 
 pub put_header-headed-requires : goal.put_header-headed-requires
-put_header-headed-requires c = (left_ready (begun _ _ _ _ _ _ _ c.requires.0 c.requires.1) _ _ refl, c.requires.0.rooms.sizes.some_frames)
+put_header-headed-requires c = (
+  left_ready (begun _ _ _ _ _ _ _ c.requires.0 c.requires.1) _ _ refl,
+  c.requires.0.rooms.sizes.some_frames,
+)
 
 pub put_order-ordered-requires : goal.put_order-ordered-requires
-put_order-ordered-requires c = let headed : Left c.args.out.now empty (file_fields c.args.n c.args.w c.args.k c.args.order.now c.args.labels.now c.args.counts.now) c.put_header-headed.new.out c.put_header-headed.result (order_fields c.args.order.now ++ rows_fields c.args.w c.args.labels.now c.args.counts.now 0 c.args.n) = left_step (begun _ _ _ _ _ _ _ c.requires.0 c.requires.1) _ _ refl c.put_header-headed.ensures in
-    left_ready (headed) _ _ refl
+put_order-ordered-requires c = let headed : Left c.args.out.now empty
+    (file_fields c.args.n c.args.w c.args.k c.args.order.now c.args.labels.now c.args.counts.now) c.put_header-headed.new.out c.put_header-headed.result
+    (order_fields c.args.order.now ++ rows_fields c.args.w c.args.labels.now c.args.counts.now 0 c.args.n) = left_step
+    (begun _ _ _ _ _ _ _ c.requires.0 c.requires.1) _ _ refl c.put_header-headed.ensures in
+    left_ready headed _ _ refl
 
 pub put_rows-done-requires : goal.put_rows-done-requires
-put_rows-done-requires c = let headed : Left c.args.out.now empty (file_fields c.args.n c.args.w c.args.k c.args.order.now c.args.labels.now c.args.counts.now) c.put_header-headed.new.out c.put_header-headed.result (order_fields c.args.order.now ++ rows_fields c.args.w c.args.labels.now c.args.counts.now 0 c.args.n) = left_step (begun _ _ _ _ _ _ _ c.requires.0 c.requires.1) _ _ refl c.put_header-headed.ensures in
-    let ordered : Left c.args.out.now empty (file_fields c.args.n c.args.w c.args.k c.args.order.now c.args.labels.now c.args.counts.now) c.put_order-ordered.new.out c.put_order-ordered.result (rows_fields c.args.w c.args.labels.now c.args.counts.now 0 c.args.n) = left_step (headed) _ _ refl c.put_order-ordered.ensures in
-    ((ordered).ready, fit_lies _ _ _ _ _ _ c.requires.0)
+put_rows-done-requires c = let headed : Left c.args.out.now empty
+    (file_fields c.args.n c.args.w c.args.k c.args.order.now c.args.labels.now c.args.counts.now) c.put_header-headed.new.out c.put_header-headed.result
+    (order_fields c.args.order.now ++ rows_fields c.args.w c.args.labels.now c.args.counts.now 0 c.args.n) = left_step
+    (begun _ _ _ _ _ _ _ c.requires.0 c.requires.1) _ _ refl c.put_header-headed.ensures in
+    let ordered : Left c.args.out.now empty
+    (file_fields c.args.n c.args.w c.args.k c.args.order.now c.args.labels.now c.args.counts.now) c.put_order-ordered.new.out c.put_order-ordered.result
+    (rows_fields c.args.w c.args.labels.now c.args.counts.now 0 c.args.n) =
+    left_step headed _ _ refl c.put_order-ordered.ensures in
+    (ordered.ready, fit_lies _ _ _ _ _ _ c.requires.0)
 
 pub close-requires : goal.close-requires
-close-requires c = let headed : Left c.args.out.now empty (file_fields c.args.n c.args.w c.args.k c.args.order.now c.args.labels.now c.args.counts.now) c.put_header-headed.new.out c.put_header-headed.result (order_fields c.args.order.now ++ rows_fields c.args.w c.args.labels.now c.args.counts.now 0 c.args.n) = left_step (begun _ _ _ _ _ _ _ c.requires.0 c.requires.1) _ _ refl c.put_header-headed.ensures in
-    let ordered : Left c.args.out.now empty (file_fields c.args.n c.args.w c.args.k c.args.order.now c.args.labels.now c.args.counts.now) c.put_order-ordered.new.out c.put_order-ordered.result (rows_fields c.args.w c.args.labels.now c.args.counts.now 0 c.args.n) = left_step (headed) _ _ refl c.put_order-ordered.ensures in
-    let finished : Left c.args.out.now empty (file_fields c.args.n c.args.w c.args.k c.args.order.now c.args.labels.now c.args.counts.now) c.put_rows-done.new.out c.put_rows-done.result [] = left_step (ordered) _ [] (sym (append-nil _)) c.put_rows-done.ensures in
-    (finished).ready
+close-requires c = let headed : Left c.args.out.now empty
+    (file_fields c.args.n c.args.w c.args.k c.args.order.now c.args.labels.now c.args.counts.now) c.put_header-headed.new.out c.put_header-headed.result
+    (order_fields c.args.order.now ++ rows_fields c.args.w c.args.labels.now c.args.counts.now 0 c.args.n) = left_step
+    (begun _ _ _ _ _ _ _ c.requires.0 c.requires.1) _ _ refl c.put_header-headed.ensures in
+    let ordered : Left c.args.out.now empty
+    (file_fields c.args.n c.args.w c.args.k c.args.order.now c.args.labels.now c.args.counts.now) c.put_order-ordered.new.out c.put_order-ordered.result
+    (rows_fields c.args.w c.args.labels.now c.args.counts.now 0 c.args.n) =
+    left_step headed _ _ refl c.put_order-ordered.ensures in
+    let finished : Left c.args.out.now empty
+    (file_fields c.args.n c.args.w c.args.k c.args.order.now c.args.labels.now c.args.counts.now) c.put_rows-done.new.out c.put_rows-done.result [] =
+    left_step ordered _ [] (sym (append-nil _)) c.put_rows-done.ensures in
+    finished.ready
 
 pub returns : goal.returns
 unfolding file_of
-returns c = let headed : Left c.args.out.now empty (file_fields c.args.n c.args.w c.args.k c.args.order.now c.args.labels.now c.args.counts.now) c.put_header-headed.new.out c.put_header-headed.result (order_fields c.args.order.now ++ rows_fields c.args.w c.args.labels.now c.args.counts.now 0 c.args.n) = left_step (begun _ _ _ _ _ _ _ c.requires.0 c.requires.1) _ _ refl c.put_header-headed.ensures in
-    let ordered : Left c.args.out.now empty (file_fields c.args.n c.args.w c.args.k c.args.order.now c.args.labels.now c.args.counts.now) c.put_order-ordered.new.out c.put_order-ordered.result (rows_fields c.args.w c.args.labels.now c.args.counts.now 0 c.args.n) = left_step (headed) _ _ refl c.put_order-ordered.ensures in
-    let finished : Left c.args.out.now empty (file_fields c.args.n c.args.w c.args.k c.args.order.now c.args.labels.now c.args.counts.now) c.put_rows-done.new.out c.put_rows-done.result [] = left_step (ordered) _ [] (sym (append-nil _)) c.put_rows-done.ensures in
-    ended _ _ _ _ _ c.requires.1 (finished) c.close.ensures (λ i. (c.type_inv.out i).fits)
+returns c = let headed : Left c.args.out.now empty
+    (file_fields c.args.n c.args.w c.args.k c.args.order.now c.args.labels.now c.args.counts.now) c.put_header-headed.new.out c.put_header-headed.result
+    (order_fields c.args.order.now ++ rows_fields c.args.w c.args.labels.now c.args.counts.now 0 c.args.n) = left_step
+    (begun _ _ _ _ _ _ _ c.requires.0 c.requires.1) _ _ refl c.put_header-headed.ensures in
+    let ordered : Left c.args.out.now empty
+    (file_fields c.args.n c.args.w c.args.k c.args.order.now c.args.labels.now c.args.counts.now) c.put_order-ordered.new.out c.put_order-ordered.result
+    (rows_fields c.args.w c.args.labels.now c.args.counts.now 0 c.args.n) =
+    left_step headed _ _ refl c.put_order-ordered.ensures in
+    let finished : Left c.args.out.now empty
+    (file_fields c.args.n c.args.w c.args.k c.args.order.now c.args.labels.now c.args.counts.now) c.put_rows-done.new.out c.put_rows-done.result [] =
+    left_step ordered _ [] (sym (append-nil _)) c.put_rows-done.ensures in
+    ended _ _ _ _ _ c.requires.1 finished c.close.ensures (λ i. (c.type_inv.out i).fits)

@@ -33,7 +33,8 @@ module _ (n w k : ℕ) (O labels counts : List ℕ) (s : index_sizes n w k ≡ t
       let (z, stop) = sizes_in n w k s in
       let o : check_order n O ≡ order_test n O =
       order_alone n O z.some_frames z.frames (fit_lengths n w (length O) (length labels) (length counts) l).0 in
-      let r : check_rows n w k labels counts ≡ rows_test n w k labels counts = rows_alone n w k labels counts (rooms_in n w k O labels counts s l) in
+      let r : check_rows n w k labels counts ≡ rows_test n w k labels counts = rows_alone n w k labels counts
+      (rooms_in n w k O labels counts s l) in
       after_fine _ (test_fine SIZE 0 s) ∙ after_fine _ (test_fine LENGTH 0 l) ∙ ap₂ (λ (a b : Verdict). a then b) (sym o) (sym r)
 
 pub returns-then-not-sizes : goal.returns-then-not-sizes
@@ -42,21 +43,29 @@ returns-then-not-sizes c = c.refused.ensures
     ∙ sym (after_refused _ (test_refused SIZE 0 (sym c.index_sizes-sizes.ensures ∙ c.if-not-sizes.true)))
 
 pub lengths_fit-lengths-requires : goal.lengths_fit-lengths-requires
-lengths_fit-lengths-requires c = let one-passed : index_sizes c.args.n c.args.w c.args.k ≡ true = sym c.index_sizes-sizes.ensures ∙ c.if-not-sizes.false in
-    let (z, stop) = sizes_in _ _ _ (one-passed) in
+lengths_fit-lengths-requires c = let one-passed : index_sizes c.args.n c.args.w c.args.k ≡ true =
+    sym c.index_sizes-sizes.ensures ∙ c.if-not-sizes.false in
+    let (z, stop) = sizes_in _ _ _ one-passed in
     (z.frames, z.width)
 
 pub returns-then-not-lengths : goal.returns-then-not-lengths
-returns-then-not-lengths c = let one-passed : index_sizes c.args.n c.args.w c.args.k ≡ true = sym c.index_sizes-sizes.ensures ∙ c.if-not-sizes.false in
+returns-then-not-lengths c = let one-passed : index_sizes c.args.n c.args.w c.args.k ≡ true =
+    sym c.index_sizes-sizes.ensures ∙ c.if-not-sizes.false in
     c.refused-then-not-lengths.ensures
-    ∙ sym (at_length _ _ _ _ _ _ (one-passed) (sym c.lengths_fit-lengths.ensures ∙ c.if-not-lengths.true))
+    ∙ sym (at_length _ _ _ _ _ _ one-passed (sym c.lengths_fit-lengths.ensures ∙ c.if-not-lengths.true))
 
 pub returns-in_default : goal.returns-in_default
-returns-in_default c = let one-passed : index_sizes c.args.n c.args.w c.args.k ≡ true = sym c.index_sizes-sizes.ensures ∙ c.if-not-sizes.false in
-    let left_over : write_tests c.args.n c.args.w c.args.k c.args.order.now c.args.labels.now c.args.counts.now ≡ (check_order c.args.n c.args.order.now then check_rows c.args.n c.args.w c.args.k c.args.labels.now c.args.counts.now) = at-order _ _ _ _ _ _ (one-passed) (sym c.lengths_fit-lengths.ensures ∙ c.if-not-lengths.false) in
+returns-in_default c = let one-passed : index_sizes c.args.n c.args.w c.args.k ≡ true = sym c.index_sizes-sizes.ensures
+    ∙ c.if-not-sizes.false in
+    let left_over : write_tests c.args.n c.args.w c.args.k c.args.order.now c.args.labels.now c.args.counts.now ≡
+    (check_order c.args.n c.args.order.now then check_rows c.args.n c.args.w c.args.k c.args.labels.now c.args.counts.now) =
+    at-order _ _ _ _ _ _ one-passed (sym c.lengths_fit-lengths.ensures ∙ c.if-not-lengths.false) in
     sym (left_over ∙ after_refused _ (sym c.check_order-once.ensures.answer ∙ c.in_default.is) ∙ sym c.in_default.is)
 
 pub returns : goal.returns
-returns c = let one-passed : index_sizes c.args.n c.args.w c.args.k ≡ true = sym c.index_sizes-sizes.ensures ∙ c.if-not-sizes.false in
-    let left_over : write_tests c.args.n c.args.w c.args.k c.args.order.now c.args.labels.now c.args.counts.now ≡ (check_order c.args.n c.args.order.now then check_rows c.args.n c.args.w c.args.k c.args.labels.now c.args.counts.now) = at-order _ _ _ _ _ _ (one-passed) (sym c.lengths_fit-lengths.ensures ∙ c.if-not-lengths.false) in
+returns c = let one-passed : index_sizes c.args.n c.args.w c.args.k ≡ true = sym c.index_sizes-sizes.ensures
+    ∙ c.if-not-sizes.false in
+    let left_over : write_tests c.args.n c.args.w c.args.k c.args.order.now c.args.labels.now c.args.counts.now ≡
+    (check_order c.args.n c.args.order.now then check_rows c.args.n c.args.w c.args.k c.args.labels.now c.args.counts.now) =
+    at-order _ _ _ _ _ _ one-passed (sym c.lengths_fit-lengths.ensures ∙ c.if-not-lengths.false) in
     sym (left_over ∙ after_fine _ (sym c.check_order-once.ensures.answer ∙ c.in-Fine.is) ∙ sym c.check_rows.ensures.answer)

@@ -1,5 +1,5 @@
 -- The goals that the search leaves.
-use Prim.Native.Nat.{ℕ, ◌+◌, ◌-◌}
+use Prim.Native.Nat.{ℕ, ◌+◌}
 use mathlib.Core.Path.{sym}
 use native.Mathlib.Omega.{arith}
 use borrow.Author.Count.{falls}
@@ -57,7 +57,8 @@ pub frames-smaller : goal.frames-smaller
 frames-smaller c = falls _ _ c.frames-test.true
 
 pub frames-preserved : goal.frames-preserved
-frames-preserved c = frames_on c.frames.invariant c.frames-test.true (links_end c.loop-at.invariant c.loop-at-test.false) c.loop-at.invariant.cursors
+frames-preserved c = frames_on c.frames.invariant c.frames-test.true
+    (links_end c.loop-at.invariant c.loop-at-test.false) c.loop-at.invariant.cursors
 
 pub returns-after-frames : goal.returns-after-frames
 returns-after-frames c = frames_end c.frames.invariant c.frames-test.false

@@ -15,8 +15,11 @@ pub overflow_cast-u : goal.overflow_cast-u
 overflow_cast-u c = omega (arith, c.type_inv.places (get_or c.args.cursors.now c.args.w 0))
 
 pub returns-then-u-v : goal.returns-then-u-v
-returns-then-u-v c = let low = c.requires.1.from _ c.requires.0.frame in
-    (sym (holds_at_lem _ _ _ _ _ low c.if-guess-end.true c.if-u-v.true), cursors_on c.requires.1 _ _ c.requires.0.low (omega arith))
+returns-then-u-v c = let low = c.requires.1.from _ c.requires.0.frame in (
+  sym (holds_at_lem _ _ _ _ _ low c.if-guess-end.true c.if-u-v.true),
+  cursors_on c.requires.1 _ _ c.requires.0.low
+      (omega arith),
+)
 
 pub returns-then-at-end : goal.returns-then-at-end
 returns-then-at-end c = (

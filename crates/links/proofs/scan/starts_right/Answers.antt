@@ -1,5 +1,4 @@
 -- The goals that the search leaves.
-use Prim.Native.Nat.{◌-◌}
 use mathlib.Core.Path.{refl, sym, ◌∙◌}
 use native.Mathlib.Omega.{arith}
 use native.Mathlib.Nat.{sub-zero}
@@ -15,7 +14,8 @@ pub loop-v-init : goal.loop-v-init
 loop-v-init c = (omega arith, rw sub-zero refl)
 
 pub returns-then-starts-next : goal.returns-then-starts-next
-returns-then-starts-next c = sym (starts_fall _ _ _ (sym c.loop-v.invariant.1 ∙ some_here _ _ _ (omega arith) (lt-ltb _ _ c.if-starts-next.true)))
+returns-then-starts-next c = sym (starts_fall _ _ _ (sym c.loop-v.invariant.1 ∙ some_here _ _ _ (omega arith)
+    (lt-ltb _ _ c.if-starts-next.true)))
 
 pub loop-v-preserved : goal.loop-v-preserved
 loop-v-preserved c = (omega arith, some_step _ _ _ (omega arith) (le-ltb _ _ c.if-starts-next.false) ∙ c.loop-v.invariant.1)

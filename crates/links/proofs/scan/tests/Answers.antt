@@ -7,7 +7,8 @@ pub first_faulty-v-requires : goal.first_faulty-v-requires
 first_faulty-v-requires c = starts_kept _ _ _ (sym c.starts_right.ensures ∙ c.if-starts_right.true) c.requires
 
 pub returns-then-v-n : goal.returns-then-v-n
-returns-then-v-n c = sym (tests_fine _ _ _ _ (sym c.starts_right.ensures ∙ c.if-starts_right.true) c.first_faulty-v.ensures c.if-v-n.true)
+returns-then-v-n c = sym (tests_fine _ _ _ _ (sym c.starts_right.ensures
+    ∙ c.if-starts_right.true) c.first_faulty-v.ensures c.if-v-n.true)
 
 pub returns-then-starts_right : goal.returns-then-starts_right
 returns-then-starts_right c = c.refused.ensures

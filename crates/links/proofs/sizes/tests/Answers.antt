@@ -12,7 +12,8 @@ pub overflow_add-n : goal.overflow_add-n
 overflow_add-n c = omega (arith, frames_held _ (both_true _ _ (sym c.block_fits.ensures ∙ c.if-block_fits.true)).0)
 
 pub returns-then-starts-n : goal.returns-then-starts-n
-returns-then-starts-n c = sym (sizes_in _ _ _ (sym c.block_fits.ensures ∙ c.if-block_fits.true) ∙ test_fine _ _ (eq-eqb _ _ c.if-starts-n.true))
+returns-then-starts-n c = sym (sizes_in _ _ _ (sym c.block_fits.ensures ∙ c.if-block_fits.true) ∙ test_fine _ _
+    (eq-eqb _ _ c.if-starts-n.true))
 
 pub returns-then-block_fits : goal.returns-then-block_fits
 returns-then-block_fits c = c.refused.ensures

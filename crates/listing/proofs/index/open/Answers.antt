@@ -11,10 +11,19 @@ pub header-opened-requires : goal.header-opened-requires
 header-opened-requires c = tt
 
 pub returns-in_default : goal.returns-in_default
-returns-in_default c = record { put = put_as (refused_text_lem c.number_of.ensures c.in_default.is ∙ header_refused _ c.header-opened.ensures.given c.in_default.is) c.refused.ensures.put; near = omega (arith, c.refused.ensures.near) }
+returns-in_default c = record {
+  put = put_as (refused_text_lem c.number_of.ensures c.in_default.is
+      ∙ header_refused _ c.header-opened.ensures.given c.in_default.is) c.refused.ensures.put;
+  near = omega
+      (arith, c.refused.ensures.near);
+}
 
 pub returns-then-n-gt-FRAMES : goal.returns-then-n-gt-FRAMES
-returns-then-n-gt-FRAMES c = record { put = put_as (over_frames _ c.header-opened.ensures.given c.in-Index.is c.if-n-gt-FRAMES.true) c.refused-then-n-gt-FRAMES.ensures.put; near = omega (arith, c.refused-then-n-gt-FRAMES.ensures.near) }
+returns-then-n-gt-FRAMES c = record {
+  put = put_as
+      (over_frames _ c.header-opened.ensures.given c.in-Index.is c.if-n-gt-FRAMES.true) c.refused-then-n-gt-FRAMES.ensures.put;
+  near = omega (arith, c.refused-then-n-gt-FRAMES.ensures.near);
+}
 
 pub slice_bounds-read-end-2 : goal.slice_bounds-read-end-2
 slice_bounds-read-end-2 c = sym (length-take-le _ _ (search rules))
@@ -30,4 +39,10 @@ read-requires c = let (o, l, n) = c.requires.order_len in
     record { cut = cut_rooms _ _ _ _ c.if-n-gt-FRAMES.false o l n; in_bounds = c.requires.in_bounds }
 
 pub returns : goal.returns
-returns c = let (p, l, n) = c.requires.order_len in record { put = put_as (cut_text _ _ _ _ c.if-n-gt-FRAMES.false p l n _ ∙ within_frames _ c.header-opened.ensures.given c.in-Index.is c.if-n-gt-FRAMES.false) c.read.ensures.put; near = c.read.ensures.near }
+returns c = let (p, l, n) = c.requires.order_len in record {
+  put = put_as
+      (cut_text _ _ _ _ c.if-n-gt-FRAMES.false p l n _
+      ∙ within_frames _ c.header-opened.ensures.given c.in-Index.is c.if-n-gt-FRAMES.false) c.read.ensures.put;
+  near =
+      c.read.ensures.near;
+}

@@ -10,8 +10,18 @@ pub spread-answer-requires : goal.spread-answer-requires
 spread-answer-requires c = tt
 
 pub lines-requires : goal.lines-requires
-lines-requires c = record { shown = shown_by _ c.requires.counts_value c.requires.cut; counts_in_bounds = omega (arith, c.head-at.ensures.near, c.head-at.ensures.put.long, c.requires.cut.frames, c.requires.in_bounds) }
+lines-requires c = record {
+  shown = shown_by _ c.requires.counts_value c.requires.cut;
+  counts_in_bounds = omega
+      (arith, c.head-at.ensures.near, c.head-at.ensures.put.long, c.requires.cut.frames, c.requires.in_bounds);
+}
 
 pub returns : goal.returns
 unfolding index_text
-returns c = let spread = spread_said _ _ _ c.requires.counts_value c.spread-answer.ensures.answer c.spread_of-spread.ensures in record { put = rw (← spread, ← total_sum c.args.counts.now (omega (arith, c.requires.cut.frames)), ← c.total-entries.ensures.0) (put_more c.head-at.ensures.put c.lines.ensures.put); near = omega (arith, c.lines.ensures.near, c.head-at.ensures.near, c.requires.cut.frames) }
+returns c = let spread = spread_said _ _ _ c.requires.counts_value c.spread-answer.ensures.answer c.spread_of-spread.ensures in record {
+  put =
+      rw (← spread, ← total_sum c.args.counts.now (omega (arith, c.requires.cut.frames)), ← c.total-entries.ensures.0)
+      (put_more c.head-at.ensures.put c.lines.ensures.put);
+  near = omega
+      (arith, c.lines.ensures.near, c.head-at.ensures.near, c.requires.cut.frames);
+}

@@ -9,4 +9,10 @@ overflow_cast-hub c = omega (arith, c.type_inv.order c.rank_of-rank.result)
 
 pub returns : goal.returns
 unfolding entry_text
-returns c = record { put = rw (← c.rank_of-rank.ensures, ← c.joins_of-joins.ensures) (put_more (put_more c.byte-at_hub.ensures c.number-at_colon.ensures.put) (put_more c.byte-at_joins.ensures c.number.ensures.put)); near = omega (arith, c.byte-at_hub.ensures.ends, c.byte-at_joins.ensures.ends) }
+returns c = record {
+  put = rw (← c.rank_of-rank.ensures, ← c.joins_of-joins.ensures)
+      (put_more (put_more c.byte-at_hub.ensures c.number-at_colon.ensures.put)
+      (put_more c.byte-at_joins.ensures c.number.ensures.put));
+  near = omega
+      (arith, c.byte-at_hub.ensures.ends, c.byte-at_joins.ensures.ends);
+}

@@ -1,5 +1,5 @@
 -- The goals that the search leaves.
-use Prim.Native.Nat.{ℕ, ◌-◌, ◌<◌}
+use Prim.Native.Nat.{ℕ, ◌<◌}
 use native.Mathlib.Omega.{arith}
 use mathlib.Core.Path.{◌≡◌, sym, ap, subst, ◌∙◌}
 use mathlib.Core.List.{List}
@@ -22,19 +22,29 @@ pub row_part-row-requires : goal.row_part-row-requires
 row_part-row-requires c = tt
 
 pub line-end-requires : goal.line-end-requires
-line-end-requires c = let row_is : c.row_part-row.result.now ≡ row_at WIDTH c.args.labels.now c.args.counts.now c.loop-v.v = c.row_part-row.ensures.entries ∙ shown_row c.requires.shown _ c.loop-v-test.true in
+line-end-requires c = let row_is : c.row_part-row.result.now ≡ row_at WIDTH c.args.labels.now c.args.counts.now c.loop-v.v =
+    c.row_part-row.ensures.entries ∙ shown_row c.requires.shown _ c.loop-v-test.true in
     let inside : c.loop-v.v < length c.args.counts.now = c.loop-v-test.true in
     let same = row_is in (
-      omega (arith, ap length same, shown_few c.requires.shown c.loop-v.v inside, c.loop-v.invariant.1.long, c.loop-v.invariant.2, c.requires.counts_in_bounds),
+      omega (
+        arith,
+        ap length same,
+        shown_few c.requires.shown c.loop-v.v inside,
+        c.loop-v.invariant.1.long,
+        c.loop-v.invariant.2,
+        c.requires.counts_in_bounds,
+      ),
       subst (λ (row : List ℕ). RanksIn row c.args.order.now) (sym same) (shown_ranks c.requires.shown c.loop-v.v inside),
     )
 
 pub loop-v-preserved : goal.loop-v-preserved
-loop-v-preserved c = let row_is : c.row_part-row.result.now ≡ row_at WIDTH c.args.labels.now c.args.counts.now c.loop-v.v = c.row_part-row.ensures.entries ∙ shown_row c.requires.shown _ c.loop-v-test.true in
+loop-v-preserved c = let row_is : c.row_part-row.result.now ≡ row_at WIDTH c.args.labels.now c.args.counts.now c.loop-v.v =
+    c.row_part-row.ensures.entries ∙ shown_row c.requires.shown _ c.loop-v-test.true in
     let inside : c.loop-v.v < length c.args.counts.now = c.loop-v-test.true in
     let same = row_is in (
       omega arith,
-      put_text _ c.loop-v.v c.loop-v.invariant.1 (put_as (ap (line_text c.args.order.now c.loop-v.v) same) c.line-end.ensures.put),
+      put_text _ c.loop-v.v c.loop-v.invariant.1
+          (put_as (ap (line_text c.args.order.now c.loop-v.v) same) c.line-end.ensures.put),
       omega (arith, ap length same, shown_few c.requires.shown c.loop-v.v inside, c.line-end.ensures.near, c.loop-v.invariant.2),
     )
 

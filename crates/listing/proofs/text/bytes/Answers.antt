@@ -1,5 +1,4 @@
 -- The goals that the search leaves.
-use Prim.Native.Nat.{◌-◌}
 use native.Mathlib.Nat.{add-zero}
 use native.Mathlib.Omega.{arith}
 use lib.Seq.{take_all}
@@ -13,7 +12,11 @@ pub bounds-out-at : goal.bounds-out-at
 bounds-out-at c = omega (arith, c.loop-i.invariant.1.long)
 
 pub loop-i-preserved : goal.loop-i-preserved
-loop-i-preserved c = (omega arith, put_next c.args.text.now c.loop-i.i (omega arith) (omega (arith, c.loop-i.invariant.1.long)) c.loop-i.invariant.1)
+loop-i-preserved c = (
+  omega arith,
+  put_next c.args.text.now c.loop-i.i (omega arith)
+      (omega (arith, c.loop-i.invariant.1.long)) c.loop-i.invariant.1,
+)
 
 pub shape_of-out : goal.shape_of-out
 shape_of-out c = c.loop-i.invariant.1.long

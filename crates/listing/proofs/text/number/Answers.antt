@@ -10,15 +10,21 @@ use Rattle.listing.proofs.text.number.Goals as goal
 
 pub bytes-requires : goal.bytes-requires
 bytes-requires c =
-    let most : c.decimal-count.result ≤ 20 = few_digits c.args.x c.decimal-count.result (omega arith) c.decimal-count.ensures.len in
+    let most : c.decimal-count.result ≤ 20 = few_digits c.args.x c.decimal-count.result
+    (omega arith) c.decimal-count.ensures.len in
     omega (arith, length-take-le c.decimal-count.result c.decimal-count.new.out c.decimal-count.ensures.in_bounds.0)
 
 pub returns : goal.returns
 returns c =
-    let most : c.decimal-count.result ≤ 20 = few_digits c.args.x c.decimal-count.result (omega arith) c.decimal-count.ensures.len in
+    let most : c.decimal-count.result ≤ 20 = few_digits c.args.x c.decimal-count.result
+    (omega arith) c.decimal-count.ensures.len in
     let spelt : take c.decimal-count.result c.decimal-count.new.out ≡ decimal c.args.x =
     c.decimal-count.ensures.digits ∙ decimal_is c.args.x c.decimal-count.result most c.decimal-count.ensures.len in
     record {
       put = put_as spelt c.bytes.ensures;
-      near = omega (arith, c.bytes.ensures.ends, length-take-le c.decimal-count.result c.decimal-count.new.out c.decimal-count.ensures.in_bounds.0);
+      near = omega (
+        arith,
+        c.bytes.ensures.ends,
+        length-take-le c.decimal-count.result c.decimal-count.new.out c.decimal-count.ensures.in_bounds.0,
+      );
     }

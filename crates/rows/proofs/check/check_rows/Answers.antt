@@ -16,7 +16,10 @@ pub first_unsound-v-requires : goal.first_unsound-v-requires
 first_unsound-v-requires c = (fine_rooms _ _ _ _ (sym c.check_rooms-rooms.ensures.answer ∙ c.in-Fine.is))
 
 pub returns-then-v-n : goal.returns-then-v-n
-returns-then-v-n c = read_off verdict_told (sym (rows_fine _ ((fine_rooms _ _ _ _ (sym c.check_rooms-rooms.ensures.answer ∙ c.in-Fine.is))) c.first_unsound-v.ensures c.if-v-n.true))
+returns-then-v-n c = read_off verdict_told (sym (rows_fine _ ((fine_rooms _ _ _ _
+    (sym c.check_rooms-rooms.ensures.answer ∙ c.in-Fine.is))) c.first_unsound-v.ensures c.if-v-n.true))
 
 pub returns-else-v-n : goal.returns-else-v-n
-returns-else-v-n c = read_off verdict_told (c.refused.ensures ∙ sym (rows_refused _ ((fine_rooms _ _ _ _ (sym c.check_rooms-rooms.ensures.answer ∙ c.in-Fine.is))) c.first_unsound-v.ensures c.if-v-n.false))
+returns-else-v-n c = read_off verdict_told (c.refused.ensures ∙ sym
+    (rows_refused _ ((fine_rooms _ _ _ _ (sym c.check_rooms-rooms.ensures.answer
+    ∙ c.in-Fine.is))) c.first_unsound-v.ensures c.if-v-n.false))

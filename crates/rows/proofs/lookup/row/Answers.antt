@@ -12,10 +12,22 @@ use Rattle.rows.proofs.lookup.row.Goals as goal
 pub returns-in_default : goal.returns-in_default
 unfolding if_fine
 returns-in_default c = let (part, start) = row_by _ _ _ _ _ (sym c.check_row-asked.ensures.answer ∙ c.in_default.is) in
-    record { entries = sym part; lies = sym (ap (λ (s : ℕ). (c.args.labels.ref_ptr.0, s * entry_bytes + c.args.labels.ref_ptr.1)) start) }
+    record {
+      entries = sym part;
+      lies = sym (ap (λ (s : ℕ). (
+        c.args.labels.ref_ptr.0,
+        s * entry_bytes + c.args.labels.ref_ptr.1,
+      )) start);
+    }
 
 pub offset_bounds-counts-v : goal.offset_bounds-counts-v
-offset_bounds-counts-v c = record { fits = omega (arith, (((checked_row _ _ _ _ _ (sym c.check_row-asked.ensures.answer ∙ c.in-Fine.is)).0.row)).counted) }
+offset_bounds-counts-v c = record {
+  fits = omega (
+    arith,
+    (((checked_row _ _ _ _ _
+        (sym c.check_row-asked.ensures.answer ∙ c.in-Fine.is)).0.row)).counted,
+  );
+}
 
 pub bounds-counts-v : goal.bounds-counts-v
 bounds-counts-v c = (((checked_row _ _ _ _ _ (sym c.check_row-asked.ensures.answer ∙ c.in-Fine.is)).0.row)).counted
@@ -29,4 +41,8 @@ cut-requires c = (((checked_row _ _ _ _ _ (sym c.check_row-asked.ensures.answer 
 pub returns : goal.returns
 unfolding if_fine row_at
 returns c = let (part, start) = row_by _ _ _ _ _ (sym c.check_row-asked.ensures.answer ∙ c.in-Fine.is) in
-    record { entries = c.cut.ensures.entries ∙ sym part; lies = c.cut.ensures.lies ∙ sym (ap (λ (s : ℕ). (c.args.labels.ref_ptr.0, s * entry_bytes + c.args.labels.ref_ptr.1)) start) }
+    record {
+      entries = c.cut.ensures.entries ∙ sym part;
+      lies = c.cut.ensures.lies ∙ sym
+          (ap (λ (s : ℕ). (c.args.labels.ref_ptr.0, s * entry_bytes + c.args.labels.ref_ptr.1)) start);
+    }

@@ -38,7 +38,12 @@ pub overflow_add-j : goal.overflow_add-j
 overflow_add-j c = omega (arith, c.step_past-j.ensures, past_most c.rank_of-other.result c.rank_of-rank.result)
 
 pub loop-i-smaller : goal.loop-i-smaller
-loop-i-smaller c = omega (arith, c.step_past-j.ensures, c.step_past-i.ensures, past_some c.rank_of-rank.result c.rank_of-other.result)
+loop-i-smaller c = omega (
+  arith,
+  c.step_past-j.ensures,
+  c.step_past-i.ensures,
+  past_some c.rank_of-rank.result c.rank_of-other.result,
+)
 
 pub loop-i-preserved : goal.loop-i-preserved
 loop-i-preserved c = (
@@ -50,7 +55,8 @@ loop-i-preserved c = (
       lesser_by c.loop-i.least
       record {
         rank = c.rank_of-rank.ensures x;
-        sum = (c.at_rank-sum.ensures ∙ (λ y. at_rank (c.rank_of-rank.ensures y) (c.rank_of-other.ensures y) (c.joins_of.ensures y + c.joins_of-in-loop-i.ensures y))) x;
+        sum = (c.at_rank-sum.ensures ∙ (λ y. at_rank (c.rank_of-rank.ensures y) (c.rank_of-other.ensures y)
+            (c.joins_of.ensures y + c.joins_of-in-loop-i.ensures y))) x;
       }))
       (c.step_past-i.ensures ∙ (λ x. past_by (c.rank_of-rank.ensures x) (c.rank_of-other.ensures x)))
       (c.step_past-j.ensures ∙ (λ x. past_by (c.rank_of-other.ensures x) (c.rank_of-rank.ensures x))),

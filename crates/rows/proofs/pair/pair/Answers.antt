@@ -11,17 +11,20 @@ returns-in-Refused c = read_off pair_told (sym
     (sym c.check_pair-asked.ensures ∙ c.in-Refused.is)))
 
 pub meet-requires : goal.meet-requires
-meet-requires c = let asked = pair_asked c.args.n c.args.w c.args.labels.now c.args.counts.now c.args.s c.args.t ((sym c.check_pair-asked.ensures ∙ c.in_default.is)) in
+meet-requires c = let asked = pair_asked c.args.n c.args.w c.args.labels.now c.args.counts.now c.args.s c.args.t
+    (sym c.check_pair-asked.ensures ∙ c.in_default.is) in
     (row_in asked.rooms asked.first asked.first_sound, row_in asked.rooms asked.second asked.second_sound)
 
 pub returns-in-Nowhere : goal.returns-in-Nowhere
 unfolding answered
 returns-in-Nowhere c = read_off pair_told (sym
-    (answer_fine c.args.n c.args.w c.args.labels.now c.args.counts.now c.args.s c.args.t ((sym c.check_pair-asked.ensures ∙ c.in_default.is))
+    (answer_fine c.args.n c.args.w c.args.labels.now c.args.counts.now c.args.s c.args.t
+    (sym c.check_pair-asked.ensures ∙ c.in_default.is)
     (sym c.in-Nowhere.is ∙ c.meet.ensures)))
 
 pub returns-in-Meet : goal.returns-in-Meet
 unfolding answered
 returns-in-Meet c = read_off pair_told (sym
-    (answer_fine c.args.n c.args.w c.args.labels.now c.args.counts.now c.args.s c.args.t ((sym c.check_pair-asked.ensures ∙ c.in_default.is))
+    (answer_fine c.args.n c.args.w c.args.labels.now c.args.counts.now c.args.s c.args.t
+    (sym c.check_pair-asked.ensures ∙ c.in_default.is)
     (sym c.in-Meet.is ∙ c.meet.ensures)))

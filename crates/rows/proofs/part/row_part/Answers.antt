@@ -10,7 +10,11 @@ use Rattle.rows.proofs.part.row_part.Goals as goal
 pub returns-then-not-lies : goal.returns-then-not-lies
 unfolding part_of part_start
 returns-then-not-lies c = let e = sym c.in_room-lies.ensures ∙ c.if-not-lies.true in
-    record { entries = sym (cond_false _ _ e); lies = ap (λ (k : ℕ). (c.args.labels.ref_ptr.0, k * entry_bytes + c.args.labels.ref_ptr.1)) (sym (cond_false _ _ e)) }
+    record {
+      entries = sym (cond_false _ _ e);
+      lies = ap (λ (k : ℕ).
+          (c.args.labels.ref_ptr.0, k * entry_bytes + c.args.labels.ref_ptr.1)) (sym (cond_false _ _ e));
+    }
 
 pub cut-requires : goal.cut-requires
 cut-requires c = (room_held _ _ _ _ (sym c.in_room-lies.ensures ∙ c.if-not-lies.false)).2
@@ -18,4 +22,8 @@ cut-requires c = (room_held _ _ _ _ (sym c.in_room-lies.ensures ∙ c.if-not-lie
 pub returns : goal.returns
 unfolding part_of part_start
 returns c = let e = sym c.in_room-lies.ensures ∙ c.if-not-lies.false in
-    record { entries = c.cut.ensures.entries ∙ sym (cond_true _ _ e); lies = c.cut.ensures.lies ∙ ap (λ (k : ℕ). (c.args.labels.ref_ptr.0, k * entry_bytes + c.args.labels.ref_ptr.1)) (sym (cond_true _ _ e)) }
+    record {
+      entries = c.cut.ensures.entries ∙ sym (cond_true _ _ e);
+      lies = c.cut.ensures.lies ∙ ap
+          (λ (k : ℕ). (c.args.labels.ref_ptr.0, k * entry_bytes + c.args.labels.ref_ptr.1)) (sym (cond_true _ _ e));
+    }

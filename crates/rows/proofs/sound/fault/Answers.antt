@@ -11,4 +11,5 @@ pub returns-then-n-joins_of : goal.returns-then-n-joins_of
 returns-then-n-joins_of c = sym (fault_joins _ _ _ (omega (arith, c.joins_of.ensures)))
 
 pub returns : goal.returns
-returns c = sym (fault_none _ _ _ (omega (arith, c.if-rank_of.false, c.rank_of.ensures, c.rank_of-2.ensures)) (omega (arith, c.joins_of.ensures)))
+returns c = sym (fault_none _ _ _ (omega (arith, c.if-rank_of.false, c.rank_of.ensures, c.rank_of-2.ensures))
+    (omega (arith, c.joins_of.ensures)))

@@ -16,7 +16,8 @@ loop-v-preserved c = (
 )
 
 pub returns-else-sound_row : goal.returns-else-sound_row
-returns-else-sound_row c = sym (first_here _ _ _ c.loop-v-test.true (not_of_false (sym c.sound_row.ensures ∙ c.if-sound_row.false)))
+returns-else-sound_row c = sym (first_here _ _ _ c.loop-v-test.true
+    (not_of_false (sym c.sound_row.ensures ∙ c.if-sound_row.false)))
     ∙ c.loop-v.invariant.1
 
 pub returns : goal.returns

@@ -12,7 +12,8 @@ use Rattle.rows.proofs.Faults.{part_refused, part_broken, part_whole}
 use Rattle.rows.proofs.sound.sound_part.Goals as goal
 
 pub returns-then-row-eq0 : goal.returns-then-row-eq0
-returns-then-row-eq0 c = sym (not_of_false (some_none (faulty_entry c.args.n c.args.bound c.args.row.now) 0 (length c.args.row.now) (λ i p q. absurd (omega arith))))
+returns-then-row-eq0 c = sym (not_of_false (some_none (faulty_entry c.args.n c.args.bound c.args.row.now) 0
+    (length c.args.row.now) (λ i p q. absurd (omega arith))))
 
 pub returns-then-n-joins_of : goal.returns-then-n-joins_of
 returns-then-n-joins_of c = part_refused c.args.n c.args.bound c.args.row.now 0 (omega (arith, c.if-row-eq0.false))

@@ -23,7 +23,14 @@ cut-requires c = omega (arith, row_ends {c = c.args.w} c.requires.0.places c.req
 pub sound_part-requires : goal.sound_part-requires
 sound_part-requires c = (
   c.requires.0.sizes.frames,
-  omega (arith, ap length c.cut.ensures.entries, length_part c.args.w c.args.labels.now c.args.v (get_or c.args.counts.now c.args.v 0) c.requires.1 c.if-w-count.false c.requires.0.places, c.requires.0.sizes.width, c.if-w-count.false),
+  omega (
+    arith,
+    ap length c.cut.ensures.entries,
+    length_part c.args.w c.args.labels.now c.args.v
+        (get_or c.args.counts.now c.args.v 0) c.requires.1 c.if-w-count.false c.requires.0.places,
+    c.requires.0.sizes.width,
+    c.if-w-count.false,
+  ),
 )
 
 pub returns : goal.returns

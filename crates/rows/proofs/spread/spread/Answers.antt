@@ -26,7 +26,11 @@ loop-v-init c = (
 )
 
 pub front_joins-front-requires : goal.front_joins-front-requires
-front_joins-front-requires c = (omega (arith, c.loop-v.invariant.0.each), omega (arith, row_ends c.loop-v.invariant.0.places c.loop-v-test.true c.loop-v.invariant.0.sizes.some_width))
+front_joins-front-requires c = (
+  omega (arith, c.loop-v.invariant.0.each),
+  omega
+      (arith, row_ends c.loop-v.invariant.0.places c.loop-v-test.true c.loop-v.invariant.0.sizes.some_width),
+)
 
 pub sound_row-requires : goal.sound_row-requires
 sound_row-requires c = (c.loop-v.invariant.0, c.loop-v-test.true)
@@ -34,7 +38,8 @@ sound_row-requires c = (c.loop-v.invariant.0, c.loop-v-test.true)
 pub returns-then-not-sound_row : goal.returns-then-not-sound_row
 returns-then-not-sound_row c = read_off spread_told (spread_refused c.args.n c.args.w c.args.labels.now c.args.counts.now
     (rows_refused c.args.n c.loop-v.invariant.0
-    (sym (first_here _ _ _ c.loop-v-test.true (not_of_false (sym c.sound_row.ensures ∙ c.if-not-sound_row.true))) ∙ c.loop-v.invariant.2)
+    (sym (first_here _ _ _ c.loop-v-test.true (not_of_false (sym c.sound_row.ensures ∙ c.if-not-sound_row.true)))
+    ∙ c.loop-v.invariant.2)
     (omega arith)))
 
 pub loop-v-preserved : goal.loop-v-preserved
@@ -44,12 +49,19 @@ loop-v-preserved c = let sound = sym c.sound_row.ensures ∙ c.if-not-sound_row.
   omega arith,
   first_step _ _ _ c.loop-v-test.true (not_of_true sound) ∙ c.loop-v.invariant.2,
   c.larger-found.ensures
-      ∙ (λ i. max ((c.front_joins-front.ensures ∙ sym (sound_front c.loop-v.invariant.0 c.loop-v-test.true sound)) i) (c.loop-v.invariant.3 i))
+      ∙ (λ i. max ((c.front_joins-front.ensures ∙ sym (sound_front c.loop-v.invariant.0 c.loop-v-test.true sound)) i)
+      (c.loop-v.invariant.3 i))
       ∙ sym (ap (λ (v : ℕ). farthest c.args.w c.args.labels.now c.args.counts.now v) (add-one c.loop-v.v)),
 )
 
 pub overflow_mul-twice : goal.overflow_mul-twice
-overflow_mul-twice c = record { fits = omega (arith, c.loop-v.invariant.3, farthest_small c.args.w c.args.labels.now c.args.counts.now c.loop-v.v) }
+overflow_mul-twice c = record {
+  fits = omega (
+    arith,
+    c.loop-v.invariant.3,
+    farthest_small c.args.w c.args.labels.now c.args.counts.now c.loop-v.v,
+  );
+}
 
 pub returns : goal.returns
 returns c = let e : c.loop-v.v ≡ c.args.n = omega arith in

@@ -14,7 +14,8 @@ use Rattle.rows.proofs.WithinLaws.{walk_end, walk_hit, walk_on}
 use Rattle.rows.proofs.within.walk.Goals as goal
 
 -- the turn as the code makes it
-again : (limit : ℕ) (a b : List ℕ) (i j : ℕ) {p q past other : ℕ} {whole : Bool} → some_within limit (meetings (drop (i + p) a) (drop (j + q) b)) ≡ whole
+again : (limit : ℕ) (a b : List ℕ) (i j : ℕ) {p q past other : ℕ} {whole : Bool} → some_within limit
+    (meetings (drop (i + p) a) (drop (j + q) b)) ≡ whole
     → past ≡ p → other ≡ q → some_within limit (meetings (drop (i + past) a) (drop (j + other) b)) ≡ whole
 again limit a b i j same f g = rw (f, g) same
 
@@ -34,8 +35,11 @@ overflow_add-joins_of c = omega (
 )
 
 pub returns-then-sum-limit : goal.returns-then-sum-limit
-returns-then-sum-limit c = let sum = c.at_rank-sum.ensures ∙ (λ y. at_rank (c.rank_of-rank.ensures y) (c.rank_of-other.ensures y) (c.joins_of.ensures y + c.joins_of-in-loop-i.ensures y)) in
-    walk_hit {i = c.loop-i.i} {j = c.loop-i.j} c.loop-i.invariant.2 c.requires.0 c.requires.1 c.requires.2 (omega arith) (omega arith) (omega (arith, sum, c.if-sum-limit.true))
+returns-then-sum-limit c = let sum = c.at_rank-sum.ensures ∙
+    (λ y. at_rank (c.rank_of-rank.ensures y) (c.rank_of-other.ensures y)
+    (c.joins_of.ensures y + c.joins_of-in-loop-i.ensures y)) in
+    walk_hit {i = c.loop-i.i} {j = c.loop-i.j} c.loop-i.invariant.2 c.requires.0 c.requires.1 c.requires.2 (omega arith)
+    (omega arith) (omega (arith, sum, c.if-sum-limit.true))
 
 pub overflow_add-i : goal.overflow_add-i
 overflow_add-i c = omega (arith, c.step_past-i.ensures, past_most c.rank_of-rank.result c.rank_of-other.result)
@@ -44,17 +48,24 @@ pub overflow_add-j : goal.overflow_add-j
 overflow_add-j c = omega (arith, c.step_past-j.ensures, past_most c.rank_of-other.result c.rank_of-rank.result)
 
 pub loop-i-smaller : goal.loop-i-smaller
-loop-i-smaller c = omega (arith, c.step_past-j.ensures, c.step_past-i.ensures, past_some c.rank_of-rank.result c.rank_of-other.result)
+loop-i-smaller c = omega (
+  arith,
+  c.step_past-j.ensures,
+  c.step_past-i.ensures,
+  past_some c.rank_of-rank.result c.rank_of-other.result,
+)
 
 pub loop-i-preserved : goal.loop-i-preserved
-loop-i-preserved c = let sum = c.at_rank-sum.ensures ∙ (λ y. at_rank (c.rank_of-rank.ensures y) (c.rank_of-other.ensures y) (c.joins_of.ensures y + c.joins_of-in-loop-i.ensures y)) in (
-  omega (arith, c.step_past-i.ensures, past_most c.rank_of-rank.result c.rank_of-other.result),
-  omega (arith, c.step_past-j.ensures, past_most c.rank_of-other.result c.rank_of-rank.result),
-  again c.args.limit c.args.a.now c.args.b.now c.loop-i.i c.loop-i.j
-      (walk_on c.loop-i.invariant.2 c.requires.0 c.requires.1 c.requires.2 (omega arith) (omega arith) (omega (arith, sum, c.if-sum-limit.false)))
-      (c.step_past-i.ensures ∙ (λ x. past_by (c.rank_of-rank.ensures x) (c.rank_of-other.ensures x)))
-      (c.step_past-j.ensures ∙ (λ x. past_by (c.rank_of-other.ensures x) (c.rank_of-rank.ensures x))),
-)
+loop-i-preserved c = let sum = c.at_rank-sum.ensures ∙ (λ y. at_rank (c.rank_of-rank.ensures y)
+    (c.rank_of-other.ensures y) (c.joins_of.ensures y + c.joins_of-in-loop-i.ensures y)) in (
+      omega (arith, c.step_past-i.ensures, past_most c.rank_of-rank.result c.rank_of-other.result),
+      omega (arith, c.step_past-j.ensures, past_most c.rank_of-other.result c.rank_of-rank.result),
+      again c.args.limit c.args.a.now c.args.b.now c.loop-i.i c.loop-i.j
+          (walk_on c.loop-i.invariant.2 c.requires.0 c.requires.1 c.requires.2 (omega arith) (omega arith)
+          (omega (arith, sum, c.if-sum-limit.false)))
+          (c.step_past-i.ensures ∙ (λ x. past_by (c.rank_of-rank.ensures x) (c.rank_of-other.ensures x)))
+          (c.step_past-j.ensures ∙ (λ x. past_by (c.rank_of-other.ensures x) (c.rank_of-rank.ensures x))),
+    )
 
 pub returns : goal.returns
 returns c = walk_end _ _ _ c.loop-i.i c.loop-i.j c.loop-i.invariant.2 (inl (omega arith))

@@ -7,8 +7,13 @@ use Rattle.rows.proofs.within.walk_rows.Goals as goal
 
 pub walk-requires : goal.walk-requires
 unfolding row_at
-walk-requires c = (rw c.cut-first.ensures.entries c.requires.0.rises, rw c.cut-second.ensures.entries c.requires.1.rises, c.requires.2)
+walk-requires c = (
+  rw c.cut-first.ensures.entries c.requires.0.rises,
+  rw c.cut-second.ensures.entries c.requires.1.rises,
+  c.requires.2,
+)
 
 pub returns : goal.returns
 unfolding row_at
-returns c = c.walk.ensures ∙ (λ i. some_within c.args.limit (meetings (c.cut-first.ensures.entries i) (c.cut-second.ensures.entries i)))
+returns c = c.walk.ensures ∙ (λ i. some_within c.args.limit (meetings (c.cut-first.ensures.entries i)
+    (c.cut-second.ensures.entries i)))

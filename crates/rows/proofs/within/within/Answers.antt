@@ -17,20 +17,25 @@ returns-in-Refused c = read_off within_told (sym
     (sym c.check_pair-asked.ensures ∙ c.in-Refused.is)))
 
 pub walk_rows-requires : goal.walk_rows-requires
-walk_rows-requires c = let asked = pair_asked c.args.n c.args.w c.args.labels.now c.args.counts.now c.args.s c.args.t ((sym c.check_pair-asked.ensures ∙ c.in_default.is)) in (
-  row_in asked.rooms asked.first asked.first_sound,
-  row_in asked.rooms asked.second asked.second_sound,
-  omega (arith, c.clipped.ensures, clip_low c.args.limit),
-)
+walk_rows-requires c = let asked = pair_asked c.args.n c.args.w c.args.labels.now c.args.counts.now c.args.s c.args.t
+    (sym c.check_pair-asked.ensures ∙ c.in_default.is) in (
+      row_in asked.rooms asked.first asked.first_sound,
+      row_in asked.rooms asked.second asked.second_sound,
+      omega (arith, c.clipped.ensures, clip_low c.args.limit),
+    )
 
 pub returns-then-walk_rows : goal.returns-then-walk_rows
-returns-then-walk_rows c = let both = meetings (row_at c.args.w c.args.labels.now c.args.counts.now c.args.s) (row_at c.args.w c.args.labels.now c.args.counts.now c.args.t) in
+returns-then-walk_rows c = let both = meetings (row_at c.args.w c.args.labels.now c.args.counts.now c.args.s)
+    (row_at c.args.w c.args.labels.now c.args.counts.now c.args.t) in
     read_off within_told (sym
-    (within_walked c.args.n c.args.w c.args.labels.now c.args.counts.now c.args.s c.args.t c.args.limit ((sym c.check_pair-asked.ensures ∙ c.in_default.is))
+    (within_walked c.args.n c.args.w c.args.labels.now c.args.counts.now c.args.s c.args.t c.args.limit
+    (sym c.check_pair-asked.ensures ∙ c.in_default.is)
     (sym c.if-walk_rows.true ∙ c.walk_rows.ensures ∙ ap (λ (limit : ℕ). some_within limit both) c.clipped.ensures)))
 
 pub returns : goal.returns
-returns c = let both = meetings (row_at c.args.w c.args.labels.now c.args.counts.now c.args.s) (row_at c.args.w c.args.labels.now c.args.counts.now c.args.t) in
+returns c = let both = meetings (row_at c.args.w c.args.labels.now c.args.counts.now c.args.s)
+    (row_at c.args.w c.args.labels.now c.args.counts.now c.args.t) in
     read_off within_told (sym
-    (within_walked c.args.n c.args.w c.args.labels.now c.args.counts.now c.args.s c.args.t c.args.limit ((sym c.check_pair-asked.ensures ∙ c.in_default.is))
+    (within_walked c.args.n c.args.w c.args.labels.now c.args.counts.now c.args.s c.args.t c.args.limit
+    (sym c.check_pair-asked.ensures ∙ c.in_default.is)
     (sym c.if-walk_rows.false ∙ c.walk_rows.ensures ∙ ap (λ (limit : ℕ). some_within limit both) c.clipped.ensures)))

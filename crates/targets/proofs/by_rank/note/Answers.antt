@@ -1,5 +1,4 @@
 -- The goals that the search leaves.
-use Prim.Native.Nat.{◌-◌}
 use mathlib.Core.Path.{refl, ◌∙◌}
 use native.Mathlib.Omega.{arith}
 use lib.ListN.{get_or, drop_of_length-le}
@@ -20,18 +19,33 @@ offset_bounds-noted-rank c = omega
     (arith, c.rank_of-rank.ensures, c.well_formed.1.0.1, c.requires.low c.loop-at.at c.loop-at-test.true, c.loop-at.invariant.0)
 
 pub bounds-noted-rank : goal.bounds-noted-rank
-bounds-noted-rank c = omega (arith, c.rank_of-rank.ensures, c.requires.low c.loop-at.at c.loop-at-test.true, c.loop-at.invariant.0)
+bounds-noted-rank c = omega (
+  arith,
+  c.rank_of-rank.ensures,
+  c.requires.low c.loop-at.at c.loop-at-test.true,
+  c.loop-at.invariant.0,
+)
 
 pub offset_bounds-noted-rank-then-joins-noted : goal.offset_bounds-noted-rank-then-joins-noted
 offset_bounds-noted-rank-then-joins-noted c = omega
     (arith, c.rank_of-rank.ensures, c.well_formed.1.0.1, c.requires.low c.loop-at.at c.loop-at-test.true, c.loop-at.invariant.0)
 
 pub bounds-noted-rank-then-joins-noted : goal.bounds-noted-rank-then-joins-noted
-bounds-noted-rank-then-joins-noted c = omega (arith, c.rank_of-rank.ensures, c.requires.low c.loop-at.at c.loop-at-test.true, c.loop-at.invariant.0)
+bounds-noted-rank-then-joins-noted c = omega (
+  arith,
+  c.rank_of-rank.ensures,
+  c.requires.low c.loop-at.at c.loop-at-test.true,
+  c.loop-at.invariant.0,
+)
 
 pub loop-at-preserved : goal.loop-at-preserved
 loop-at-preserved c = let on = note_turn c.args.row.now c.loop-at.noted c.loop-at.at c.loop-at-test.true c.loop-at.invariant.0 c.loop-at.invariant.1 in
-    elim c.if-joins-noted.branch [ then-joins-noted w ↦ on (w.noted-is ∙ note_less c.loop-at.noted _ c.rank_of-rank.ensures c.joins_of-joins.ensures w.if-joins-noted.true) | else-joins-noted w ↦ on (w.noted-is ∙ note_kept c.loop-at.noted _ c.rank_of-rank.ensures c.joins_of-joins.ensures w.if-joins-noted.false) ]
+    elim c.if-joins-noted.branch [
+      | then-joins-noted w ↦ on (w.noted-is
+          ∙ note_less c.loop-at.noted _ c.rank_of-rank.ensures c.joins_of-joins.ensures w.if-joins-noted.true)
+      | else-joins-noted w ↦ on (w.noted-is
+          ∙ note_kept c.loop-at.noted _ c.rank_of-rank.ensures c.joins_of-joins.ensures w.if-joins-noted.false)
+    ]
 
 pub returns : goal.returns
 unfolding noted_in

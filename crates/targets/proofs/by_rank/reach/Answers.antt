@@ -1,5 +1,5 @@
 -- The goals that the search leaves.
-use Prim.Native.Nat.{ℕ, ◌-◌}
+use Prim.Native.Nat.{ℕ}
 use mathlib.Core.Path.{ap}
 use native.Mathlib.Omega.{arith}
 use lib.ListN.{get_or}
@@ -14,7 +14,12 @@ pub overflow_cast-joins : goal.overflow_cast-joins
 overflow_cast-joins c = omega (arith, c.joins_of-joins.ensures, joins_small (get_or c.args.row.now c.loop-at.at 0))
 
 pub offset_bounds-noted-rank : goal.offset_bounds-noted-rank
-offset_bounds-noted-rank c = omega (arith, c.rank_of-rank.ensures, c.well_formed.1.0.1, c.requires.0.low c.loop-at.at c.loop-at-test.true)
+offset_bounds-noted-rank c = omega (
+  arith,
+  c.rank_of-rank.ensures,
+  c.well_formed.1.0.1,
+  c.requires.0.low c.loop-at.at c.loop-at-test.true,
+)
 
 pub bounds-noted-rank : goal.bounds-noted-rank
 bounds-noted-rank c = omega (arith, c.rank_of-rank.ensures, c.requires.0.low c.loop-at.at c.loop-at-test.true)
@@ -38,4 +43,9 @@ loop-at-preserved c = let there = ap (λ (r : ℕ). get_or c.args.noted.now r 0)
     )
 
 pub returns : goal.returns
-returns c = omega (arith, reach_over c.args.noted.now c.args.row.now c.loop-at.at c.loop-at-test.false, c.loop-at.invariant.0, c.loop-at.invariant.1)
+returns c = omega (
+  arith,
+  reach_over c.args.noted.now c.args.row.now c.loop-at.at c.loop-at-test.false,
+  c.loop-at.invariant.0,
+  c.loop-at.invariant.1,
+)

@@ -9,8 +9,10 @@ use Rattle.targets.proofs.nearest.nearest.Goals as goal
 
 pub returns : goal.returns
 returns c =
-    let same : c.nearest_listed.result ≡ nearest_of c.args.n c.args.w c.args.labels.now c.args.counts.now c.args.asked (frames_of c.args.targets.now) =
+    let same : c.nearest_listed.result ≡ nearest_of c.args.n c.args.w c.args.labels.now c.args.counts.now c.args.asked
+    (frames_of c.args.targets.now) =
     c.nearest_listed.ensures
-    ∙ ap (λ (l : Listed). nearest_of c.args.n c.args.w c.args.labels.now c.args.counts.now c.args.asked (frames_in l)) c.take_apart.ensures
+    ∙ ap (λ (l : Listed). nearest_of c.args.n c.args.w c.args.labels.now c.args.counts.now c.args.asked
+    (frames_in l)) c.take_apart.ensures
     ∙ nearest_listed _ _ _ _ _ _ in
     (same, ap nearest_told same)

@@ -14,29 +14,41 @@ returns-in-Refused c = sym
     (nearest_refused _ _ _ _ _ _ (sym c.check_nearest-fine.ensures ∙ c.in-Refused.is))
 
 pub offset_bounds-counts-asked : goal.offset_bounds-counts-asked
-offset_bounds-counts-asked c = let fine : nearest_tests c.args.n c.args.w c.args.labels.now c.args.counts.now c.args.asked c.args.frames.now ≡ Fine = sym c.check_nearest-fine.ensures ∙ c.in_default.is in
-    let asked : NearestAsked c.args.n c.args.w c.args.labels.now c.args.counts.now c.args.asked c.args.frames.now = nearest_asked _ _ _ _ _ _ fine in
-    omega (arith, (asked).inside, (asked).rooms.sizes.frames)
+offset_bounds-counts-asked c = let fine : nearest_tests c.args.n c.args.w c.args.labels.now c.args.counts.now c.args.asked c.args.frames.now ≡ Fine =
+    sym c.check_nearest-fine.ensures ∙ c.in_default.is in
+    let asked : NearestAsked c.args.n c.args.w c.args.labels.now c.args.counts.now c.args.asked c.args.frames.now =
+    nearest_asked _ _ _ _ _ _ fine in
+    omega (arith, asked.inside, asked.rooms.sizes.frames)
 
 pub bounds-counts-asked : goal.bounds-counts-asked
-bounds-counts-asked c = let fine : nearest_tests c.args.n c.args.w c.args.labels.now c.args.counts.now c.args.asked c.args.frames.now ≡ Fine = sym c.check_nearest-fine.ensures ∙ c.in_default.is in
-    let asked : NearestAsked c.args.n c.args.w c.args.labels.now c.args.counts.now c.args.asked c.args.frames.now = nearest_asked _ _ _ _ _ _ fine in
-    omega (arith, (asked).inside, (asked).rooms.each)
+bounds-counts-asked c = let fine : nearest_tests c.args.n c.args.w c.args.labels.now c.args.counts.now c.args.asked c.args.frames.now ≡ Fine =
+    sym c.check_nearest-fine.ensures ∙ c.in_default.is in
+    let asked : NearestAsked c.args.n c.args.w c.args.labels.now c.args.counts.now c.args.asked c.args.frames.now =
+    nearest_asked _ _ _ _ _ _ fine in
+    omega (arith, asked.inside, asked.rooms.each)
 
 pub note-requires : goal.note-requires
-note-requires c = let fine : nearest_tests c.args.n c.args.w c.args.labels.now c.args.counts.now c.args.asked c.args.frames.now ≡ Fine = sym c.check_nearest-fine.ensures ∙ c.in_default.is in
-    let asked : NearestAsked c.args.n c.args.w c.args.labels.now c.args.counts.now c.args.asked c.args.frames.now = nearest_asked _ _ _ _ _ _ fine in
-    let row : c.row_part.result.now ≡ row_at c.args.w c.args.labels.now c.args.counts.now c.args.asked = c.row_part.ensures.entries ∙ asked_part (asked) in
-    asked_ranks (asked) (row)
+note-requires c = let fine : nearest_tests c.args.n c.args.w c.args.labels.now c.args.counts.now c.args.asked c.args.frames.now ≡ Fine =
+    sym c.check_nearest-fine.ensures ∙ c.in_default.is in
+    let asked : NearestAsked c.args.n c.args.w c.args.labels.now c.args.counts.now c.args.asked c.args.frames.now =
+    nearest_asked _ _ _ _ _ _ fine in
+    let row : c.row_part.result.now ≡ row_at c.args.w c.args.labels.now c.args.counts.now c.args.asked =
+    c.row_part.ensures.entries ∙ asked_part asked in
+    asked_ranks asked row
 
 pub first_reached-requires : goal.first_reached-requires
-first_reached-requires c = let fine : nearest_tests c.args.n c.args.w c.args.labels.now c.args.counts.now c.args.asked c.args.frames.now ≡ Fine = sym c.check_nearest-fine.ensures ∙ c.in_default.is in
-    let asked : NearestAsked c.args.n c.args.w c.args.labels.now c.args.counts.now c.args.asked c.args.frames.now = nearest_asked _ _ _ _ _ _ fine in
-    asked_rows (asked) _ c.note.ensures
+first_reached-requires c = let fine : nearest_tests c.args.n c.args.w c.args.labels.now c.args.counts.now c.args.asked c.args.frames.now ≡ Fine =
+    sym c.check_nearest-fine.ensures ∙ c.in_default.is in
+    let asked : NearestAsked c.args.n c.args.w c.args.labels.now c.args.counts.now c.args.asked c.args.frames.now =
+    nearest_asked _ _ _ _ _ _ fine in
+    asked_rows asked _ c.note.ensures
 
 pub returns : goal.returns
-returns c = let fine : nearest_tests c.args.n c.args.w c.args.labels.now c.args.counts.now c.args.asked c.args.frames.now ≡ Fine = sym c.check_nearest-fine.ensures ∙ c.in_default.is in
-    let asked : NearestAsked c.args.n c.args.w c.args.labels.now c.args.counts.now c.args.asked c.args.frames.now = nearest_asked _ _ _ _ _ _ fine in
-    let row : c.row_part.result.now ≡ row_at c.args.w c.args.labels.now c.args.counts.now c.args.asked = c.row_part.ensures.entries ∙ asked_part (asked) in
+returns c = let fine : nearest_tests c.args.n c.args.w c.args.labels.now c.args.counts.now c.args.asked c.args.frames.now ≡ Fine =
+    sym c.check_nearest-fine.ensures ∙ c.in_default.is in
+    let asked : NearestAsked c.args.n c.args.w c.args.labels.now c.args.counts.now c.args.asked c.args.frames.now =
+    nearest_asked _ _ _ _ _ _ fine in
+    let row : c.row_part.result.now ≡ row_at c.args.w c.args.labels.now c.args.counts.now c.args.asked =
+    c.row_part.ensures.entries ∙ asked_part asked in
     c.first_reached.ensures
-    ∙ nearest_reached _ _ _ _ _ _ (fine) (row) c.note.ensures
+    ∙ nearest_reached _ _ _ _ _ _ fine row c.note.ensures

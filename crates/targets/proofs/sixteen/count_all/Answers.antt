@@ -1,5 +1,4 @@
 -- The goals that the search leaves.
-use Prim.Native.Nat.{◌-◌}
 use mathlib.Core.Path.{◌≡◌, refl, sym, ap, ◌∙◌}
 use native.Mathlib.Omega.{arith}
 use lib.ListN.{length}
@@ -14,7 +13,11 @@ pub overflow_cast-counts : goal.overflow_cast-counts
 overflow_cast-counts c = omega (arith, c.type_inv.counts c.loop-v.v)
 
 pub reach-joins-requires : goal.reach-joins-requires
-reach-joins-requires c = (ranks_part c.args.noted.now (c.requires.0.rows c.loop-v.v c.loop-v-test.true) refl c.row_part-row.ensures.entries, c.requires.0.low)
+reach-joins-requires c = (
+  ranks_part c.args.noted.now
+      (c.requires.0.rows c.loop-v.v c.loop-v-test.true) refl c.row_part-row.ensures.entries,
+  c.requires.0.low,
+)
 
 pub raise-requires : goal.raise-requires
 raise-requires c = raise_in c.args.w c.args.labels.now c.args.counts.now c.args.noted.now c.loop-v.v

@@ -1,5 +1,4 @@
 -- The goals that the search leaves.
-use Prim.Native.Nat.{◌-◌}
 use mathlib.Core.Path.{refl, sym, ◌∙◌}
 use native.Mathlib.Omega.{arith}
 use lib.ListN.{get_or}
@@ -22,7 +21,8 @@ pub overflow_cast-counts : goal.overflow_cast-counts
 overflow_cast-counts c = omega (arith, c.type_inv.counts (get_or c.args.frames.now c.loop-i.i 0))
 
 pub note-requires : goal.note-requires
-note-requires c = ranks_part c.loop-i.noted (c.requires.rows c.loop-i.i c.loop-i-test.true) c.loop-i.invariant.0 c.row_part.ensures.entries
+note-requires c = ranks_part c.loop-i.noted
+    (c.requires.rows c.loop-i.i c.loop-i-test.true) c.loop-i.invariant.0 c.row_part.ensures.entries
 
 pub loop-i-preserved : goal.loop-i-preserved
 loop-i-preserved c = rows_turn c.args.w c.args.labels.now c.args.counts.now c.args.frames.now c.loop-i.noted c.loop-i.i c.loop-i-test.true

@@ -9,7 +9,8 @@ use Rattle.targets.proofs.sixteen.sixteen.Goals as goal
 
 pub returns : goal.returns
 returns c =
-    let same : c.sixteen_listed.result ≡ sixteen_of c.args.n c.args.w c.args.labels.now c.args.counts.now (frames_of c.args.targets.now) =
+    let same : c.sixteen_listed.result ≡ sixteen_of c.args.n c.args.w c.args.labels.now c.args.counts.now
+    (frames_of c.args.targets.now) =
     c.sixteen_listed.ensures
     ∙ ap (λ (l : Listed). sixteen_of c.args.n c.args.w c.args.labels.now c.args.counts.now (frames_in l)) c.take_apart.ensures
     ∙ sixteen_listed _ _ _ _ _ in

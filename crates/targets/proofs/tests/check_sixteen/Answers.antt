@@ -11,18 +11,21 @@ pub returns-in_default : goal.returns-in_default
 returns-in_default c = c.in_default.is ∙ sym (sixteen_rooms _ _ _ _ _ (sym c.check_target_rooms-rooms.ensures ∙ c.in_default.is))
 
 pub check_records-records-requires : goal.check_records-records-requires
-check_records-records-requires c = let fine : target_rooms c.args.n c.args.w c.args.labels.now c.args.counts.now c.args.frames.now ≡ Fine = sym c.check_target_rooms-rooms.ensures ∙ c.in-Fine.is in
-    (rooms_let _ _ _ _ _ (fine)).1
+check_records-records-requires c = let fine : target_rooms c.args.n c.args.w c.args.labels.now c.args.counts.now c.args.frames.now ≡ Fine =
+    sym c.check_target_rooms-rooms.ensures ∙ c.in-Fine.is in
+    (rooms_let _ _ _ _ _ fine).1
 
 pub returns-in_default-records : goal.returns-in_default-records
-returns-in_default-records c = let fine : target_rooms c.args.n c.args.w c.args.labels.now c.args.counts.now c.args.frames.now ≡ Fine = sym c.check_target_rooms-rooms.ensures ∙ c.in-Fine.is in
+returns-in_default-records c = let fine : target_rooms c.args.n c.args.w c.args.labels.now c.args.counts.now c.args.frames.now ≡ Fine =
+    sym c.check_target_rooms-rooms.ensures ∙ c.in-Fine.is in
     c.in_default-records.is
-    ∙ sym (sixteen_on _ _ _ _ _ (fine) ∙ after_refused _ (sym c.check_records-records.ensures ∙ c.in_default-records.is))
+    ∙ sym (sixteen_on _ _ _ _ _ fine ∙ after_refused _ (sym c.check_records-records.ensures ∙ c.in_default-records.is))
 
 pub returns : goal.returns
-returns c = let fine : target_rooms c.args.n c.args.w c.args.labels.now c.args.counts.now c.args.frames.now ≡ Fine = sym c.check_target_rooms-rooms.ensures ∙ c.in-Fine.is in
+returns c = let fine : target_rooms c.args.n c.args.w c.args.labels.now c.args.counts.now c.args.frames.now ≡ Fine =
+    sym c.check_target_rooms-rooms.ensures ∙ c.in-Fine.is in
     c.check_rows.ensures.answer
-    ∙ rows_alone _ _ _ _ _ (rooms_let _ _ _ _ _ (fine)).0
+    ∙ rows_alone _ _ _ _ _ (rooms_let _ _ _ _ _ fine).0
     ∙ sym
-    (sixteen_on _ _ _ _ _ (fine)
+    (sixteen_on _ _ _ _ _ fine
     ∙ after_fine _ (sym c.check_records-records.ensures ∙ c.in-Fine-records.is))

@@ -17,4 +17,10 @@ pub note-requires-2 : goal.note-requires-2
 note-requires-2 c = forget_in c.requires c.row_of-own.ensures c.note.ensures
 
 pub returns : goal.returns
-returns c = record { notes = notes_back c.requires c.row_of-own.ensures c.note.ensures c.note-2.ensures; levels = room_is c.requires c.row_of-own.ensures c.note.ensures c.reach-tail.ensures; frames = c.reach-tail.ensures.line; low = bfs_low c.reach-tail.ensures }
+returns c = record {
+  notes = notes_back c.requires c.row_of-own.ensures c.note.ensures c.note-2.ensures;
+  levels =
+      room_is c.requires c.row_of-own.ensures c.note.ensures c.reach-tail.ensures;
+  frames = c.reach-tail.ensures.line;
+  low = bfs_low c.reach-tail.ensures;
+}

@@ -1,5 +1,5 @@
 -- The goals that the search leaves.
-use Prim.Native.Nat.{◌+◌, ◌-◌, ◌≤◌, ◌<◌}
+use Prim.Native.Nat.{◌+◌, ◌≤◌, ◌<◌}
 use mathlib.Core.Path.{◌≡◌, refl, sym, ◌∙◌}
 use native.Mathlib.Omega.{arith}
 use lib.ListN.{length, get_or}
@@ -33,12 +33,14 @@ pub loop-at-init : goal.loop-at-init
 loop-at-init c = (omega arith, c.requires.block.rise c.args.u c.requires.frame, grown_none _ _ _ _ c.requires.line)
 
 pub offset_bounds-places-at : goal.offset_bounds-places-at
-offset_bounds-places-at c = let list-end : get_or c.args.starts.now (c.args.u + 1) 0 ≤ length c.args.places.now = start_upto c.requires.block (c.args.u + 1) (omega (arith, c.requires.frame)) in
+offset_bounds-places-at c = let list-end : get_or c.args.starts.now (c.args.u + 1) 0 ≤ length c.args.places.now =
+    start_upto c.requires.block (c.args.u + 1) (omega (arith, c.requires.frame)) in
     let place_in : c.loop-at.at < length c.args.places.now = omega (arith, list-end) in
     omega (arith, place_in, c.well_formed.1.0.1)
 
 pub bounds-places-at : goal.bounds-places-at
-bounds-places-at c = let list-end : get_or c.args.starts.now (c.args.u + 1) 0 ≤ length c.args.places.now = start_upto c.requires.block (c.args.u + 1) (omega (arith, c.requires.frame)) in
+bounds-places-at c = let list-end : get_or c.args.starts.now (c.args.u + 1) 0 ≤ length c.args.places.now =
+    start_upto c.requires.block (c.args.u + 1) (omega (arith, c.requires.frame)) in
     let place_in : c.loop-at.at < length c.args.places.now = omega (arith, list-end) in
     place_in
 
@@ -46,51 +48,73 @@ pub overflow_cast-v : goal.overflow_cast-v
 overflow_cast-v c = omega (arith, c.type_inv.places c.loop-at.at)
 
 pub overflow_add-at : goal.overflow_add-at
-overflow_add-at c = let list-end : get_or c.args.starts.now (c.args.u + 1) 0 ≤ length c.args.places.now = start_upto c.requires.block (c.args.u + 1) (omega (arith, c.requires.frame)) in
+overflow_add-at c = let list-end : get_or c.args.starts.now (c.args.u + 1) 0 ≤ length c.args.places.now =
+    start_upto c.requires.block (c.args.u + 1) (omega (arith, c.requires.frame)) in
     let place_in : c.loop-at.at < length c.args.places.now = omega (arith, list-end) in
     omega (arith, place_in, c.well_formed.1.0.1)
 
 pub offset_bounds-met-v : goal.offset_bounds-met-v
-offset_bounds-met-v c = let frame-in : get_or c.args.places.now c.loop-at.at 0 < length c.args.met.now = c.requires.block.inside c.args.u c.loop-at.at c.requires.frame c.loop-at.invariant.0 (omega arith) in
+offset_bounds-met-v c = let frame-in : get_or c.args.places.now c.loop-at.at 0 < length c.args.met.now =
+    c.requires.block.inside c.args.u c.loop-at.at c.requires.frame c.loop-at.invariant.0 (omega arith) in
     omega (arith, frame-in, c.requires.frames)
 
 pub bounds-met-v : goal.bounds-met-v
-bounds-met-v c = let frame-in : get_or c.args.places.now c.loop-at.at 0 < length c.args.met.now = c.requires.block.inside c.args.u c.loop-at.at c.requires.frame c.loop-at.invariant.0 (omega arith) in
+bounds-met-v c = let frame-in : get_or c.args.places.now c.loop-at.at 0 < length c.args.met.now =
+    c.requires.block.inside c.args.u c.loop-at.at c.requires.frame c.loop-at.invariant.0 (omega arith) in
     omega (arith, frame-in, c.loop-at.invariant.2.long)
 
 pub offset_bounds-met-v-then-met-v-eq0 : goal.offset_bounds-met-v-then-met-v-eq0
-offset_bounds-met-v-then-met-v-eq0 c = let frame-in : get_or c.args.places.now c.loop-at.at 0 < length c.args.met.now = c.requires.block.inside c.args.u c.loop-at.at c.requires.frame c.loop-at.invariant.0 (omega arith) in
+offset_bounds-met-v-then-met-v-eq0 c = let frame-in : get_or c.args.places.now c.loop-at.at 0 < length c.args.met.now =
+    c.requires.block.inside c.args.u c.loop-at.at c.requires.frame c.loop-at.invariant.0 (omega arith) in
     omega (arith, frame-in, c.requires.frames)
 
 pub bounds-met-v-then-met-v-eq0 : goal.bounds-met-v-then-met-v-eq0
-bounds-met-v-then-met-v-eq0 c = let frame-in : get_or c.args.places.now c.loop-at.at 0 < length c.args.met.now = c.requires.block.inside c.args.u c.loop-at.at c.requires.frame c.loop-at.invariant.0 (omega arith) in
+bounds-met-v-then-met-v-eq0 c = let frame-in : get_or c.args.places.now c.loop-at.at 0 < length c.args.met.now =
+    c.requires.block.inside c.args.u c.loop-at.at c.requires.frame c.loop-at.invariant.0 (omega arith) in
     omega (arith, frame-in, c.loop-at.invariant.2.long)
 
 pub overflow_cast-queue : goal.overflow_cast-queue
-overflow_cast-queue c = let frame-in : get_or c.args.places.now c.loop-at.at 0 < length c.args.met.now = c.requires.block.inside c.args.u c.loop-at.at c.requires.frame c.loop-at.invariant.0 (omega arith) in
+overflow_cast-queue c = let frame-in : get_or c.args.places.now c.loop-at.at 0 < length c.args.met.now =
+    c.requires.block.inside c.args.u c.loop-at.at c.requires.frame c.loop-at.invariant.0 (omega arith) in
     omega (arith, frame-in, c.requires.frames)
 
 pub offset_bounds-queue-grown : goal.offset_bounds-queue-grown
-offset_bounds-queue-grown c = let frame-in : get_or c.args.places.now c.loop-at.at 0 < length c.args.met.now = c.requires.block.inside c.args.u c.loop-at.at c.requires.frame c.loop-at.invariant.0 (omega arith) in
-    let queue_room : c.loop-at.grown < length c.args.met.now = omega (arith, room c.loop-at.invariant.2.line _ (omega (arith, frame-in, c.loop-at.invariant.2.long)) c.if-met-v-eq0.true, c.loop-at.invariant.2.long) in
+offset_bounds-queue-grown c = let frame-in : get_or c.args.places.now c.loop-at.at 0 < length c.args.met.now =
+    c.requires.block.inside c.args.u c.loop-at.at c.requires.frame c.loop-at.invariant.0 (omega arith) in
+    let queue_room : c.loop-at.grown < length c.args.met.now = omega (
+      arith,
+      room c.loop-at.invariant.2.line _ (omega (arith, frame-in, c.loop-at.invariant.2.long)) c.if-met-v-eq0.true,
+      c.loop-at.invariant.2.long,
+    ) in
     omega (arith, queue_room, c.requires.frames)
 
 pub bounds-queue-grown : goal.bounds-queue-grown
-bounds-queue-grown c = let frame-in : get_or c.args.places.now c.loop-at.at 0 < length c.args.met.now = c.requires.block.inside c.args.u c.loop-at.at c.requires.frame c.loop-at.invariant.0 (omega arith) in
-    let queue_room : c.loop-at.grown < length c.args.met.now = omega (arith, room c.loop-at.invariant.2.line _ (omega (arith, frame-in, c.loop-at.invariant.2.long)) c.if-met-v-eq0.true, c.loop-at.invariant.2.long) in
+bounds-queue-grown c = let frame-in : get_or c.args.places.now c.loop-at.at 0 < length c.args.met.now =
+    c.requires.block.inside c.args.u c.loop-at.at c.requires.frame c.loop-at.invariant.0 (omega arith) in
+    let queue_room : c.loop-at.grown < length c.args.met.now = omega (
+      arith,
+      room c.loop-at.invariant.2.line _ (omega (arith, frame-in, c.loop-at.invariant.2.long)) c.if-met-v-eq0.true,
+      c.loop-at.invariant.2.long,
+    ) in
     omega (arith, queue_room, c.loop-at.invariant.2.long, c.loop-at.invariant.2.line.long)
 
 pub overflow_add-grown : goal.overflow_add-grown
-overflow_add-grown c = let frame-in : get_or c.args.places.now c.loop-at.at 0 < length c.args.met.now = c.requires.block.inside c.args.u c.loop-at.at c.requires.frame c.loop-at.invariant.0 (omega arith) in
-    let queue_room : c.loop-at.grown < length c.args.met.now = omega (arith, room c.loop-at.invariant.2.line _ (omega (arith, frame-in, c.loop-at.invariant.2.long)) c.if-met-v-eq0.true, c.loop-at.invariant.2.long) in
+overflow_add-grown c = let frame-in : get_or c.args.places.now c.loop-at.at 0 < length c.args.met.now =
+    c.requires.block.inside c.args.u c.loop-at.at c.requires.frame c.loop-at.invariant.0 (omega arith) in
+    let queue_room : c.loop-at.grown < length c.args.met.now = omega (
+      arith,
+      room c.loop-at.invariant.2.line _ (omega (arith, frame-in, c.loop-at.invariant.2.long)) c.if-met-v-eq0.true,
+      c.loop-at.invariant.2.long,
+    ) in
     omega (arith, queue_room, c.requires.frames)
 
 pub loop-at-preserved-then-met-v-eq0 : goal.loop-at-preserved-then-met-v-eq0
-loop-at-preserved-then-met-v-eq0 c = let frame-in : get_or c.args.places.now c.loop-at.at 0 < length c.args.met.now = c.requires.block.inside c.args.u c.loop-at.at c.requires.frame c.loop-at.invariant.0 (omega arith) in (
-  omega arith,
-  omega (arith, c.loop-at-test.true),
-  grown_new _ _ _ _ c.loop-at.invariant.2 _ refl c.loop-at.invariant.0 c.loop-at-test.true (frame-in) c.if-met-v-eq0.true c.requires.some,
-)
+loop-at-preserved-then-met-v-eq0 c = let frame-in : get_or c.args.places.now c.loop-at.at 0 < length c.args.met.now =
+    c.requires.block.inside c.args.u c.loop-at.at c.requires.frame c.loop-at.invariant.0 (omega arith) in (
+      omega arith,
+      omega (arith, c.loop-at-test.true),
+      grown_new _ _ _ _ c.loop-at.invariant.2 _ refl c.loop-at.invariant.0 c.loop-at-test.true frame-in c.if-met-v-eq0.true c.requires.some,
+    )
 
 pub loop-at-preserved : goal.loop-at-preserved
 loop-at-preserved c = (

@@ -1,5 +1,5 @@
 -- The goals that the search leaves.
-use Prim.Native.Nat.{ℕ, ◌-◌}
+use Prim.Native.Nat.{ℕ}
 use mathlib.Core.Path.{refl, sym, ap, ◌∙◌}
 use native.Mathlib.Nat.{sub-zero}
 use native.Mathlib.Omega.{arith}
@@ -47,4 +47,5 @@ loop-i-preserved c = let note = ap (λ (r : ℕ). get_or c.args.noted.now r 0) c
 )
 
 pub returns : goal.returns
-returns c = sym (some_over (entry_within c.args.noted.now c.args.row.now c.args.level) c.loop-i.i _ c.loop-i-test.false) ∙ c.loop-i.invariant.1
+returns c = sym (some_over (entry_within c.args.noted.now c.args.row.now c.args.level) c.loop-i.i _ c.loop-i-test.false)
+    ∙ c.loop-i.invariant.1

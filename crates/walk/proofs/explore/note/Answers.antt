@@ -1,5 +1,4 @@
 -- The goals that the search leaves.
-use Prim.Native.Nat.{◌-◌}
 use mathlib.Core.Path.{refl, sym, ◌∙◌}
 use native.Mathlib.Omega.{arith}
 use lib.ListN.{length-set, drop_of_length-le}

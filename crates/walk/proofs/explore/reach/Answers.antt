@@ -1,5 +1,4 @@
 -- The goals that the search leaves.
-use Prim.Native.Nat.{◌-◌}
 use mathlib.Core.Path.{◌≡◌, sym, ap, ◌∙◌}
 use native.Mathlib.Omega.{arith}
 use lib.ListN.{length, length-replicate}
@@ -7,21 +6,33 @@ use Rattle.walk.proofs.BfsStart.{bfs_start}
 use Rattle.walk.proofs.explore.reach.Goals as goal
 
 pub bounds-met-hub : goal.bounds-met-hub
-bounds-met-hub c = let met_long : length c.args.met.now ≡ length c.args.counts.now = ap length c.requires.met_zero ∙ length-replicate _ 0 in
+bounds-met-hub c = let met_long : length c.args.met.now ≡ length c.args.counts.now = ap length c.requires.met_zero
+    ∙ length-replicate _ 0 in
     omega (arith, c.requires.hub_in, met_long)
 
 pub bounds-queue-0 : goal.bounds-queue-0
-bounds-queue-0 c = let queue_long : length c.args.queue.now ≡ length c.args.counts.now = ap length c.requires.queue_zero ∙ length-replicate _ 0 in
+bounds-queue-0 c = let queue_long : length c.args.queue.now ≡ length c.args.counts.now = ap length c.requires.queue_zero
+    ∙ length-replicate _ 0 in
     omega (arith, c.requires.hub_in, queue_long)
 
 pub loop-head-init : goal.loop-head-init
 loop-head-init c = bfs_start _ _ _ _ _ c.requires.hub_in c.requires.met_zero c.requires.queue_zero
 
 pub step-tail-requires : goal.step-tail-requires
-step-tail-requires c = record { given = c.requires.given; so_far = rw c.loop-head.invariant.first c.loop-head.invariant; more = c.loop-head-test.true }
+step-tail-requires c = record {
+  given = c.requires.given;
+  so_far = rw c.loop-head.invariant.first c.loop-head.invariant;
+  more = c.loop-head-test.true;
+}
 
 pub overflow_add-head : goal.overflow_add-head
-overflow_add-head c = omega (arith, c.loop-head-test.true, c.loop-head.invariant.line.few, c.loop-head.invariant.long, c.requires.given.frames)
+overflow_add-head c = omega (
+  arith,
+  c.loop-head-test.true,
+  c.loop-head.invariant.line.few,
+  c.loop-head.invariant.long,
+  c.requires.given.frames,
+)
 
 pub loop-head-smaller : goal.loop-head-smaller
 loop-head-smaller c = omega (arith, c.loop-head-test.true, c.loop-head.invariant.line.few, c.loop-head.invariant.long)
@@ -30,13 +41,16 @@ pub loop-head-preserved : goal.loop-head-preserved
 loop-head-preserved c = rw c.loop-head.invariant.first at c.step-tail.ensures
 
 pub shape_of-met : goal.shape_of-met
-shape_of-met c = let met_long : length c.args.met.now ≡ length c.args.counts.now = ap length c.requires.met_zero ∙ length-replicate _ 0 in
-    c.loop-head.invariant.long ∙ sym (met_long)
+shape_of-met c = let met_long : length c.args.met.now ≡ length c.args.counts.now = ap length c.requires.met_zero
+    ∙ length-replicate _ 0 in
+    c.loop-head.invariant.long ∙ sym met_long
 
 pub shape_of-queue : goal.shape_of-queue
-shape_of-queue c = let queue_long : length c.args.queue.now ≡ length c.args.counts.now = ap length c.requires.queue_zero ∙ length-replicate _ 0 in
-    c.loop-head.invariant.line.long ∙ c.loop-head.invariant.long ∙ sym (queue_long)
+shape_of-queue c = let queue_long : length c.args.queue.now ≡ length c.args.counts.now = ap length c.requires.queue_zero
+    ∙ length-replicate _ 0 in
+    c.loop-head.invariant.line.long ∙ c.loop-head.invariant.long ∙ sym queue_long
 
 pub returns : goal.returns
-returns c = let ended : c.loop-head.head ≡ c.loop-head.tail = omega (arith, c.loop-head.invariant.ahead, c.loop-head-test.false) in
+returns c = let ended : c.loop-head.head ≡ c.loop-head.tail = omega
+    (arith, c.loop-head.invariant.ahead, c.loop-head-test.false) in
     rw ended at c.loop-head.invariant

@@ -8,7 +8,13 @@ use Rattle.walk.proofs.BfsKept.{bfs_keep}
 use Rattle.walk.proofs.explore.step.Goals as goal
 
 pub offset_bounds-queue-head : goal.offset_bounds-queue-head
-offset_bounds-queue-head c = omega (arith, c.requires.more, c.requires.so_far.line.few, c.requires.so_far.long, c.requires.given.frames)
+offset_bounds-queue-head c = omega (
+  arith,
+  c.requires.more,
+  c.requires.so_far.line.few,
+  c.requires.so_far.long,
+  c.requires.given.frames,
+)
 
 pub bounds-queue-head : goal.bounds-queue-head
 bounds-queue-head c = omega (arith, c.requires.more, c.requires.so_far.line.few, c.requires.so_far.line.long)

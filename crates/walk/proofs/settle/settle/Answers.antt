@@ -14,7 +14,8 @@ store-requires c = (c.requires, sym c.fits-room.ensures ∙ c.if-room.true)
 
 pub returns-then-tail-le-MOST_MARK : goal.returns-then-tail-le-MOST_MARK
 unfolding if_made
-returns-then-tail-le-MOST_MARK c = let made = settle_made c.requires (sym c.fits-room.ensures ∙ c.if-room.true) (omega (arith, c.if-tail-le-MOST_MARK.true)) in
+returns-then-tail-le-MOST_MARK c = let made = settle_made c.requires (sym c.fits-room.ensures ∙ c.if-room.true)
+    (omega (arith, c.if-tail-le-MOST_MARK.true)) in
     record { value = sym made; laid = c.store.ensures }
 
 pub returns-then-room : goal.returns-then-room

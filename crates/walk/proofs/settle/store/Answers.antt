@@ -1,5 +1,5 @@
 -- The goals that the search leaves.
-use Prim.Native.Nat.{ℕ, ◌-◌, ◌*◌, ◌<◌}
+use Prim.Native.Nat.{ℕ, ◌*◌, ◌<◌}
 use mathlib.Core.Path.{◌≡◌, sym, ap, ◌∙◌}
 use mathlib.Core.List.{List}
 use native.Mathlib.Omega.{arith}
@@ -16,11 +16,13 @@ pub overflow_cast-v : goal.overflow_cast-v
 overflow_cast-v c = omega (arith, c.type_inv.queue c.loop-at.at)
 
 pub offset_bounds-met-v : goal.offset_bounds-met-v
-offset_bounds-met-v c = let low : get_or c.args.queue.now c.loop-at.at 0 < length c.args.met.now = c.requires.0.queued.low c.loop-at.at c.loop-at-test.true in
+offset_bounds-met-v c = let low : get_or c.args.queue.now c.loop-at.at 0 < length c.args.met.now =
+    c.requires.0.queued.low c.loop-at.at c.loop-at-test.true in
     omega (arith, low)
 
 pub bounds-met-v : goal.bounds-met-v
-bounds-met-v c = let low : get_or c.args.queue.now c.loop-at.at 0 < length c.args.met.now = c.requires.0.queued.low c.loop-at.at c.loop-at-test.true in
+bounds-met-v c = let low : get_or c.args.queue.now c.loop-at.at 0 < length c.args.met.now =
+    c.requires.0.queued.low c.loop-at.at c.loop-at-test.true in
     low
 
 pub give-requires : goal.give-requires
