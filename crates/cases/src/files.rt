@@ -1,12 +1,10 @@
 // The files 00, 01 and so on up to the first that is not there: each one's name, what the listing gives, and the place where
 // the reader refuses it.
-ghost use Rattle.io.specs.Counts.{IsPrefixLen};
-
 use crate::print;
 use file::Opened;
-use listing::{FRAMES, LONGEST, TAKEN, WIDTH};
+use listing::{FRAMES, TAKEN, WIDTH};
 use std::fs::File;
-use std::io::Read;
+use std::os::fd::AsRawFd;
 use std::str;
 
 // The place of a refusal.
@@ -40,28 +38,11 @@ fn judge(bytes: &[u8]) {
     place(answer);
 }
 
-// What the listing makes of a file's bytes.
-fn list(bytes: &[u8]) {
-    let mut out = [0u8; LONGEST];
-    let length = listing::listing(bytes, &mut out);
-    print::words(&out[..length]);
-}
-
-// Fills the front of `bytes` with what a file gives, and gives back how many there are. A read that fails counts as its end.
-fn take(file: &mut File, bytes: &mut [u8; TAKEN]) -> usize
-    ensures { IsPrefixLen result bytes.new }
-{
-    let mut done = 0;
-    while done < TAKEN {
-        let Ok(count) = file.read(&mut bytes[done..]) else {
-            return done;
-        };
-        if count == 0 {
-            return done;
-        }
-        done += count;
-    }
-    done
+// Where the reader refuses what a descriptor gives.
+fn refusals(input: i32) {
+    let mut bytes = [0u8; TAKEN];
+    let taken = io::read_full(input, &mut bytes);
+    judge(&bytes[..taken]);
 }
 
 // One file; whether it is there.
@@ -70,15 +51,16 @@ fn file_of(rt: &HostRuntime, tens: u8, ones: u8) -> bool {
     let Ok(path) = str::from_utf8(&name) else {
         return false;
     };
-    let Ok(mut file) = File::open(rt, path) else {
+    let Ok(listed) = File::open(rt, path) else {
         return false;
     };
-    let mut bytes = [0u8; TAKEN];
-    let taken = take(&mut file, &mut bytes);
     print::words(&name);
     print::words(b"\n");
-    list(&bytes[..taken]);
-    judge(&bytes[..taken]);
+    listing::list(listed.as_raw_fd(), 1);
+    let Ok(judged) = File::open(rt, path) else {
+        return false;
+    };
+    refusals(judged.as_raw_fd());
     true
 }
 
