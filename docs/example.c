@@ -1,7 +1,7 @@
 /* The chain 0-1-2-3 through the C interface: order by degree, a build that is refused and one that is not, one question, the same with a
  * limit, the nearest of two targets, one row, the file written, its header read, and the file read back.
  *
- *   rt staticlib capi
+ *   tools/archive
  *   gcc -Wall -Wextra -std=c11 -I crates/capi docs/example.c target/staticlib/libcapi.a -o example && ./example
  */
 #include <stdio.h>

@@ -1,6 +1,5 @@
 -- Any two outcomes that the contracts of the two calls on records allow are equal: the number returned, and what is written
--- through each `&mut`. The two calls are walked by hand, so what their contracts allow is written out here, and each is shown
--- to be its contract's own clause.
+-- through each `&mut`. What their contracts allow is written out here, and each is shown to be its contract's own clause.
 use Prim.Native.Nat.{ℕ}
 use mathlib.Core.Path.{◌≡◌, refl, sym, ap, ◌∙◌}
 use mathlib.Core.List.{[], ◌∷◌}

@@ -1,9 +1,13 @@
 // The files 00, 01 and so on up to the first that is not there: each one's name, what the listing gives, and the place where
 // the reader refuses it.
+ghost use Rattle.io.specs.Counts.{IsPrefixLen};
+
 use crate::print;
 use file::Opened;
 use listing::{FRAMES, LONGEST, TAKEN, WIDTH};
-use std::{fs, str};
+use std::fs::File;
+use std::io::Read;
+use std::str;
 
 // The place of a refusal.
 fn place(opened: Opened) {
@@ -43,16 +47,34 @@ fn list(bytes: &[u8]) {
     print::words(&out[..length]);
 }
 
-// One file; whether it is there. Of its bytes so many are taken as the listing takes of an input.
+// Fills the front of `bytes` with what a file gives, and gives back how many there are. A read that fails counts as its end.
+fn take(file: &mut File, bytes: &mut [u8; TAKEN]) -> usize
+    ensures { IsPrefixLen result bytes.new }
+{
+    let mut done = 0;
+    while done < TAKEN {
+        let Ok(count) = file.read(&mut bytes[done..]) else {
+            return done;
+        };
+        if count == 0 {
+            return done;
+        }
+        done += count;
+    }
+    done
+}
+
+// One file; whether it is there.
 fn file_of(rt: &HostRuntime, tens: u8, ones: u8) -> bool {
     let name = [tens, ones];
     let Ok(path) = str::from_utf8(&name) else {
         return false;
     };
-    let Ok(bytes) = fs::read(rt, path) else {
+    let Ok(mut file) = File::open(rt, path) else {
         return false;
     };
-    let taken = bytes.len().min(TAKEN);
+    let mut bytes = [0u8; TAKEN];
+    let taken = take(&mut file, &mut bytes);
     print::words(&name);
     print::words(b"\n");
     list(&bytes[..taken]);

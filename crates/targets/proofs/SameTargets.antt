@@ -1,5 +1,5 @@
--- Any two answers that a contract of the functions on records allows are equal. These functions are walked by hand, so what
--- their contracts allow is written out here, and each is shown to be its contract's own clause.
+-- Any two answers that a contract of the functions on records allows are equal. What their contracts allow is written out
+-- here, and each is shown to be its contract's own clause.
 use mathlib.Core.Path.{◌≡◌, refl, sym, ◌∙◌}
 use seplogic.Ra.Ura.{Ura}
 use base.Logic.{SProp}
