@@ -126,7 +126,9 @@ def main():
             to = re.sub(r"`[^`\n]+`", lambda c: WORD.sub(page_word, c.group(0)), text)
         else:
             keep = imported(text)
-            to = respelled(text, new, keep, not of_function(path))
+            # a word of specs/ that is some lemma's name elsewhere is only a variable here
+            table_here = {n: snake(n) for n in new} if "/specs/" in path else new
+            to = respelled(text, table_here, keep, not of_function(path))
             if "/specs/" in path:
                 to = "".join(l if l.lstrip().startswith(("--", "use ", "pub use ")) else WORD.sub(lambda m: m.group(0) if m.group(0) in keep or not m.group(0)[0].islower() else snake(m.group(0)), l) for l in to.splitlines(keepends=True))
         if to != text:

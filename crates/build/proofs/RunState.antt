@@ -128,10 +128,10 @@ module _ {n w k : ℕ} {S L O labels₀ counts₀ met₀ queue₀ noted₀ label
     which = out.answer ∙ walk_is ruled below
 
     -- it is full, else far, else made
-    by-walk {ℓ} : {C : Type ℓ} → (full_at n w S L O r ≡ true → walked ≡ Full → C)
+    by_walk {ℓ} : {C : Type ℓ} → (full_at n w S L O r ≡ true → walked ≡ Full → C)
         → (full_at n w S L O r ≡ false → far_at n S L O r ≡ true → walked ≡ Far → C)
         → (full_at n w S L O r ≡ false → far_at n S L O r ≡ false → walked ≡ Made → C) → C
-    by-walk full distant made =
+    by_walk full distant made =
         bcase (full_at n w S L O r)
         (λ e. full e (which ∙ cond_false _ _ (ap not e)))
         (λ e.
@@ -176,7 +176,7 @@ module _ {n w k : ℕ} {S L O labels₀ counts₀ met₀ queue₀ noted₀ label
     pub run_next : walk_verdict walked r ≡ Fine → Running n w k S L O (r + 1) labels' counts' met' queue' noted'
     unfolding walk_verdict
     run_next fine =
-        by-walk
+        by_walk
         (λ e is. fine_not_refused (sym fine ∙ ap (λ (z : Walked). walk_verdict z r) is))
         (λ e f is. fine_not_refused (sym fine ∙ ap (λ (z : Walked). walk_verdict z r) is))
         next
@@ -185,7 +185,7 @@ module _ {n w k : ℕ} {S L O labels₀ counts₀ met₀ queue₀ noted₀ label
         → RunOut n w k S L O verdict labels' counts' met' queue'
     unfolding walk_verdict if_made
     run_stops said not-fine =
-        by-walk
+        by_walk
         (λ e is.
         stopped said is (λ x y. refl) (either_left (full_at n w S L O r) (far_at n S L O r) e) (run_full n w S L O k r h s.none e))
         (λ e f is.

@@ -12,7 +12,7 @@ use Rattle.theory.specs.Chains.{Least, Through}
 use Rattle.rows.specs.Pair.{pair_of, pair_told, said_of}
 use Rattle.rows.specs.declared.pair.Answer.{Answer}
 use Rattle.rows.proofs.pair.pair.Kinds as pair-kinds
-use Rattle.rows.proofs.pair.pair.Reads as Pair-reads
+use Rattle.rows.proofs.pair.pair.Reads as pair-reads
 use Rattle.build.specs.Build.{build_outcome, build_of}
 use Rattle.build.specs.declared.Built.{Built}
 use Rattle.build.specs.declared.Built.TheVariants.{Entries}
@@ -119,7 +119,7 @@ pub record PairCall (n w : ℕ) (labels counts : List ℕ) (s t : ℕ) (r : Answ
   pub κs : Lfts 2
   pub a : Dens κs pair-kinds.ps
   pub e : AtExit (ended_of 2 pair-kinds.ps pair-kinds.r) κs
-  pub post : Pair-reads.Post κs a r e
+  pub post : pair-reads.Post κs a r e
   pub frames : a.0 ≡ n
   pub width : a.1.0 ≡ w
   pub labels_lent : a.1.1.0.now ≡ labels

@@ -14,9 +14,9 @@ use Rattle.rows.proofs.check.check_rows.Reads as check-rows-reads
 use Rattle.rows.proofs.check.check_row.Kinds as check-row-kinds
 use Rattle.rows.proofs.check.check_row.Reads as check-row-reads
 use Rattle.rows.proofs.pair.pair.Kinds as pair-kinds
-use Rattle.rows.proofs.pair.pair.Reads as Pair-reads
+use Rattle.rows.proofs.pair.pair.Reads as pair-reads
 use Rattle.rows.proofs.lookup.row.Kinds as row-kinds
-use Rattle.rows.proofs.lookup.row.Reads as row_reads
+use Rattle.rows.proofs.lookup.row.Reads as row-reads
 use Rattle.rows.proofs.spread.spread.Kinds as spread-kinds
 use Rattle.rows.proofs.spread.spread.Reads as spread-reads
 use Rattle.rows.proofs.within.within.Kinds as within-kinds
@@ -52,10 +52,10 @@ check_rows_same κs a r₁ r₂ s₁ s₂ p q = p.0 ∙ sym q.0
 pub check_row_same : SameAnswer 2 check-row-kinds.ps check-row-kinds.r check-row-reads.Post
 check_row_same κs a r₁ r₂ s₁ s₂ p q = p.0 ∙ sym q.0
 
-pub pair_same : SameAnswer 2 pair-kinds.ps pair-kinds.r Pair-reads.Post
+pub pair_same : SameAnswer 2 pair-kinds.ps pair-kinds.r pair-reads.Post
 pair_same κs a r₁ r₂ s₁ s₂ p q = p.0 ∙ sym q.0
 
-pub row_same : Same 2 row-kinds.ps row-kinds.r row_reads.Post
+pub row_same : Same 2 row-kinds.ps row-kinds.r row-reads.Post
     (λ κs r₁ r₂ s₁ s₂. (r₁.now ≡ r₂.now) × (r₁.ref_ptr ≡ r₂.ref_ptr))
 row_same κs a r₁ r₂ s₁ s₂ p q = (p.0 ∙ sym q.0, p.1 ∙ sym q.1)
 

@@ -85,9 +85,9 @@ module _ {n w k : ℕ} {S L O labels counts : List ℕ} (h : Held n w k S L O la
       let (i, e, f) = x in
       subst (TrulyNearest S L asked fs) (sym e) (named_true asked i p f))
       (λ x.
-      let (e, All-apart) = x in
+      let (e, all_apart) = x in
       subst (TrulyNearest S L asked fs) (sym e)
-      (λ m t. absurd (omega (arith, All-apart t.place t.inside, (said_most (Joins S L asked (get_or fs t.place 0)) _ (joins_true asked t.place p t.inside) m t.chain).0))))
+      (λ m t. absurd (omega (arith, all_apart t.place t.inside, (said_most (Joins S L asked (get_or fs t.place 0)) _ (joins_true asked t.place p t.inside) m t.chain).0))))
 
   -- and every frame is counted by the true count to its nearest target
   pub fewest_true : (v : ℕ) → v < n → Least (ToTarget S L fs v) (said apart (fewest_joins w labels counts fs v))

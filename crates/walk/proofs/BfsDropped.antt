@@ -42,8 +42,8 @@ module _ {n : ℕ} {S L : List ℕ} {drop : ℕ → ℕ → Bool} {hub : ℕ} {M
     unfolding M'
     other v p = get_or-set_other M (get_or Q head 0) v (mark + 65536) 0 p
 
-    at-frame {ℓ} : {C : Type ℓ} (v : ℕ) → (get_or M' v 0 ≡ get_or M v 0 + 65536 → get_or M v 0 ≡ mark → C) → (get_or M' v 0 ≡ get_or M v 0 → C) → C
-    at-frame v f g =
+    at_frame {ℓ} : {C : Type ℓ} (v : ℕ) → (get_or M' v 0 ≡ get_or M v 0 + 65536 → get_or M v 0 ≡ mark → C) → (get_or M' v 0 ≡ get_or M v 0 → C) → C
+    at_frame v f g =
         by_cases (ℕ_discrete v (get_or Q head 0))
         (λ (q : v ≡ get_or Q head 0).
         let old : get_or M v 0 ≡ mark = ap (λ (k : ℕ). get_or M k 0) q ∙ is in
@@ -52,13 +52,13 @@ module _ {n : ℕ} {S L : List ℕ} {drop : ℕ → ℕ → Bool} {hub : ℕ} {M
         (λ q. g (other v q))
 
     met_at_lem : (v : ℕ) → met_at M' v ≡ met_at M v
-    met_at_lem v = at-frame v (λ s o. omega (arith, not_over)) (λ s. omega arith)
+    met_at_lem v = at_frame v (λ s o. omega (arith, not_over)) (λ s. omega arith)
 
     stays : (v : ℕ) → 0 < get_or M v 0 → 0 < get_or M' v 0
-    stays v m = at-frame v (λ s o. omega arith) (λ s. omega arith)
+    stays v m = at_frame v (λ s o. omega arith) (λ s. omega arith)
 
     was : (v : ℕ) → 0 < get_or M' v 0 → 0 < get_or M v 0
-    was v m = at-frame v (λ s o. omega (arith, first_met)) (λ s. omega arith)
+    was v m = at_frame v (λ s o. omega (arith, first_met)) (λ s. omega arith)
 
     same : (i : ℕ) → i < tail → (i ≡ head → ⊥) → get_or M' (get_or Q i 0) 0 ≡ get_or M (get_or Q i 0) 0
     same i p q = other (get_or Q i 0) (apart b more i p q)

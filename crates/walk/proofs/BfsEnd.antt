@@ -60,8 +60,8 @@ module _ {n : ℕ} {S L : List ℕ} (block : Block n 1 S L ones) {drop : ℕ →
         done = rw q at (b.done i p);
       }
 
-  at-frame {ℓ} : {C : Type ℓ} (v : ℕ) → v < n → (get_or M v 0 ≡ 0 → level_in B M v ≡ B → C) → (0 < get_or M v 0 → Place v → C) → C
-  at-frame v h out met =
+  at_frame {ℓ} : {C : Type ℓ} (v : ℕ) → v < n → (get_or M v 0 ≡ 0 → level_in B M v ≡ B → C) → (0 < get_or M v 0 → Place v → C) → C
+  at_frame v h out met =
       lt_or_ge 0 (get_or M v 0)
       (λ m. met m (place v h m))
       (λ z.
@@ -81,14 +81,14 @@ module _ {n : ℕ} {S L : List ℕ} (block : Block n 1 S L ones) {drop : ℕ →
   dropped_above v h p d = leb-true (A v) (level_in B M v) (sym (by_level v h p) ∙ d.found)
 
   cap : (v : ℕ) → v < n → level_in B M v ≤ B
-  cap v h = at-frame v h (λ e o. omega arith) (λ m p. omega (arith, p.low))
+  cap v h = at_frame v h (λ e o. omega arith) (λ m p. omega (arith, p.low))
 
   on : (u v : ℕ) → u < n → v < n → level_in B M u < A u → level_in B M v ≤ level_in B M u + one_each B (joined S L) u v
   on u v p q below =
       bcase (joined S L u v)
       (λ j.
       let one : one_each B (joined S L) u v ≡ 1 = cond_true 1 B j in
-      at-frame u p
+      at_frame u p
       (λ e o. omega (arith, cap v q))
       (λ m place-u.
       cases place-u.done
@@ -103,7 +103,7 @@ module _ {n : ℕ} {S L : List ℕ} (block : Block n 1 S L ones) {drop : ℕ →
   from : (v : ℕ) → v < n → (v ≡ hub → ⊥) → level_in B M v < B
       → (u : ℕ) × (u < n) × (level_in B M u < A u) × (level_in B M v ≡ level_in B M u + one_each B (joined S L) u v)
   from v h other met =
-      at-frame v h
+      at_frame v h
       (λ e o. absurd (omega arith))
       (λ m pv.
       cases (b.reason pv.at pv.before)
@@ -135,7 +135,7 @@ module _ {n : ℕ} {S L : List ℕ} (block : Block n 1 S L ones) {drop : ℕ →
       let same : level_in B M v ≡ levels B n (joined S L) A hub n v =
       met_levels B n (joined S L) A hub inside above (level_in B M) bfs_met v h in
       rw (← same)
-      (at-frame v h
+      (at_frame v h
       (λ e o. e ∙ sym (mark_none B (level_in B M v) (A v) (omega arith)))
       (λ m p.
       let low : level_in B M v < B = omega (arith, p.low) in
