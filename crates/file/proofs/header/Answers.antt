@@ -6,7 +6,7 @@ use native.Mathlib.Omega.{arith}
 use borrow.Author.Rules.{rules}
 use Rattle.refusal.specs.declared.Refusal.{Refusal}
 use Rattle.refusal.specs.declared.Verdict.{Verdict}
-use Rattle.fields.specs.Bits.{field_at, byte_len}
+use Rattle.fields.specs.Bits.{byte_len}
 use Rattle.file.specs.Reader.{frames_of, stop_of, header_test, header_of, opened_told}
 use Rattle.file.specs.declared.Opened.{Opened}
 use Rattle.file.proofs.Heading.{read_said, opened_fine, opened_refused, version_short, version_other, frames_short, stop_short, stop_over, spare_set, header_fine}
@@ -32,16 +32,14 @@ returns-then-version-ne-VERSION_VALUE c = refuses _ c.closed-then-version-ne-VER
     (c.get-version.ensures ∙ e)))
 
 pub returns-then-bytes-lt-FRAMES_BYTES : goal.returns-then-bytes-lt-FRAMES_BYTES
-returns-then-bytes-lt-FRAMES_BYTES c = let version : field_at c.args.bytes.now 0 4 ≡ 1 = sym c.get-version.ensures
-    ∙ c.if-version-ne-VERSION_VALUE.false in
+returns-then-bytes-lt-FRAMES_BYTES c =
     refuses _ c.closed-then-bytes-lt-FRAMES_BYTES.ensures
-    (frames_short _ c.if-bytes-lt-VERSION_BYTES.false version c.if-bytes-lt-FRAMES_BYTES.true)
+    (frames_short _ c.if-bytes-lt-VERSION_BYTES.false (sym c.get-version.ensures ∙ c.if-version-ne-VERSION_VALUE.false) c.if-bytes-lt-FRAMES_BYTES.true)
 
 pub returns-then-bytes-lt-HEADER_BYTES : goal.returns-then-bytes-lt-HEADER_BYTES
-returns-then-bytes-lt-HEADER_BYTES c = let version : field_at c.args.bytes.now 0 4 ≡ 1 = sym c.get-version.ensures
-    ∙ c.if-version-ne-VERSION_VALUE.false in
+returns-then-bytes-lt-HEADER_BYTES c =
     refuses _ c.closed-then-bytes-lt-HEADER_BYTES.ensures
-    (stop_short _ c.if-bytes-lt-FRAMES_BYTES.false version c.if-bytes-lt-HEADER_BYTES.true)
+    (stop_short _ c.if-bytes-lt-FRAMES_BYTES.false (sym c.get-version.ensures ∙ c.if-version-ne-VERSION_VALUE.false) c.if-bytes-lt-HEADER_BYTES.true)
 
 pub get-n-requires : goal.get-n-requires
 unfolding byte_len
@@ -56,10 +54,9 @@ get-k-requires c = (search rules, omega arith)
 
 pub returns-then-n-k : goal.returns-then-n-k
 unfolding frames_of stop_of
-returns-then-n-k c = let version : field_at c.args.bytes.now 0 4 ≡ 1 = sym c.get-version.ensures
-    ∙ c.if-version-ne-VERSION_VALUE.false in
+returns-then-n-k c =
     refuses _ c.closed-then-n-k.ensures
-    (stop_over _ c.if-bytes-lt-HEADER_BYTES.false version (omega (arith, c.if-n-k.true, c.get-k.ensures, c.get-n.ensures)))
+    (stop_over _ c.if-bytes-lt-HEADER_BYTES.false (sym c.get-version.ensures ∙ c.if-version-ne-VERSION_VALUE.false) (omega (arith, c.if-n-k.true, c.get-k.ensures, c.get-n.ensures)))
 
 pub get-spare-requires : goal.get-spare-requires
 unfolding byte_len
@@ -67,19 +64,18 @@ get-spare-requires c = (search rules, omega arith)
 
 pub returns-then-spare-ne0 : goal.returns-then-spare-ne0
 unfolding frames_of stop_of
-returns-then-spare-ne0 c = let version : field_at c.args.bytes.now 0 4 ≡ 1 = sym c.get-version.ensures
-    ∙ c.if-version-ne-VERSION_VALUE.false in
+returns-then-spare-ne0 c =
     let stop-in : stop_of c.args.bytes.now ≤ frames_of c.args.bytes.now = omega
     (arith, c.if-n-k.false, c.get-k.ensures, c.get-n.ensures) in
     refuses _ c.closed-then-spare-ne0.ensures
-    (spare_set _ c.if-bytes-lt-HEADER_BYTES.false version stop-in (λ e. c.if-spare-ne0.true (c.get-spare.ensures ∙ e)))
+    (spare_set _ c.if-bytes-lt-HEADER_BYTES.false (sym c.get-version.ensures ∙ c.if-version-ne-VERSION_VALUE.false) stop-in (λ e. c.if-spare-ne0.true (c.get-spare.ensures ∙ e)))
 
 pub returns : goal.returns
 unfolding frames_of stop_of header_of
-returns c = let version : field_at c.args.bytes.now 0 4 ≡ 1 = sym c.get-version.ensures ∙ c.if-version-ne-VERSION_VALUE.false in
+returns c =
     let stop-in : stop_of c.args.bytes.now ≤ frames_of c.args.bytes.now = omega
     (arith, c.if-n-k.false, c.get-k.ensures, c.get-n.ensures) in
     read_said opened_told
     (ap₂ Opened.Index (ap (λ (x : ℕ). x + 1) c.get-n.ensures) c.get-k.ensures
     ∙ opened_fine _ _
-    (header_fine _ c.if-bytes-lt-HEADER_BYTES.false version stop-in (sym c.get-spare.ensures ∙ c.if-spare-ne0.false)))
+    (header_fine _ c.if-bytes-lt-HEADER_BYTES.false (sym c.get-version.ensures ∙ c.if-version-ne-VERSION_VALUE.false) stop-in (sym c.get-spare.ensures ∙ c.if-spare-ne0.false)))

@@ -1,9 +1,7 @@
 -- `read`: a refused file leaves the rooms alone; a file whose tests are fine has all that the storing pass asks, and rooms
 -- filled to their ends are what the definition says.
-use mathlib.Core.Path.{◌≡◌, sym, ◌∙◌}
-use lib.ListN.{length}
-use Rattle.refusal.specs.declared.Verdict.{Verdict}
-use Rattle.file.specs.Reader.{frames_of, stop_of, read_test, ReadOutcome, opened_told}
+use mathlib.Core.Path.{sym, ◌∙◌}
+use Rattle.file.specs.Reader.{ReadOutcome, opened_told}
 use Rattle.file.proofs.Reader.{readable, stores_order, stores_rows, read_refused, read_fine}
 use Rattle.file.proofs.Heading.{read_said, index_is, refused_is}
 use Rattle.file.proofs.read.Goals as goal
@@ -13,23 +11,17 @@ returns-in_default c = read_said (λ (out : ReadOutcome). opened_told out.answer
     (read_refused _ _ _ _ _ c.in_default.is (refused_is _ _ _ (sym c.in_default.is ∙ c.file-opened.ensures)))
 
 pub order-requires : goal.order-requires
-order-requires c = let found : (read_test c.args.bytes.now c.args.w (length c.args.order.now) (length c.args.labels.now)
-    (length c.args.counts.now) ≡ Verdict.Fine) × (c.in-Index.n ≡ frames_of c.args.bytes.now) ×
-    (c.in-Index.k ≡ stop_of c.args.bytes.now) = index_is _ _ _ (sym c.in-Index.is ∙ c.file-opened.ensures) in
-    let (e, p, q) = found in
+order-requires c =
+    let (e, p, q) = (index_is _ _ _ (sym c.in-Index.is ∙ c.file-opened.ensures)) in
     stores_order (readable _ _ _ _ _ e) p
 
 pub rows-requires : goal.rows-requires
-rows-requires c = let found : (read_test c.args.bytes.now c.args.w (length c.args.order.now) (length c.args.labels.now)
-    (length c.args.counts.now) ≡ Verdict.Fine) × (c.in-Index.n ≡ frames_of c.args.bytes.now) ×
-    (c.in-Index.k ≡ stop_of c.args.bytes.now) = index_is _ _ _ (sym c.in-Index.is ∙ c.file-opened.ensures) in
-    let (e, p, q) = found in
+rows-requires c =
+    let (e, p, q) = (index_is _ _ _ (sym c.in-Index.is ∙ c.file-opened.ensures)) in
     stores_rows (readable _ _ _ _ _ e) p
 
 pub returns : goal.returns
-returns c = let found : (read_test c.args.bytes.now c.args.w (length c.args.order.now) (length c.args.labels.now)
-    (length c.args.counts.now) ≡ Verdict.Fine) × (c.in-Index.n ≡ frames_of c.args.bytes.now) ×
-    (c.in-Index.k ≡ stop_of c.args.bytes.now) = index_is _ _ _ (sym c.in-Index.is ∙ c.file-opened.ensures) in
-    let (e, p, q) = found in
+returns c =
+    let (e, p, q) = (index_is _ _ _ (sym c.in-Index.is ∙ c.file-opened.ensures)) in
     read_said (λ (out : ReadOutcome). opened_told out.answer)
     (read_fine _ _ _ _ _ e p q c.order.ensures c.rows.ensures.labels c.rows.ensures.counts)

@@ -8,11 +8,8 @@ use native.Mathlib.Nat.{add-sub_cancel_left, le_of_eq, le_trans}
 use lib.ListN.{length, take, drop, length-drop}
 use lib.Seq.{length-take-le}
 use Rattle.refusal.specs.Numbers.{OUT}
-use Rattle.refusal.specs.declared.Verdict.TheVariants.{Fine}
 use Rattle.refusal.proofs.Laws.{test_refused}
-use Rattle.fields.specs.Layout.{file_of}
-use Rattle.file.specs.Writer.{write_tests, out_fits, out_test, write_outcome}
-use Rattle.file.specs.Inner.{Fit}
+use Rattle.file.specs.Writer.{out_fits, out_test, write_outcome}
 use Rattle.file.specs.declared.Written.{Written}
 use Rattle.file.proofs.Fit.{fit, file_bytes}
 use Rattle.file.proofs.Writing.{out_held, out_fits_lem, write_refused, write_out, write_filled, put_back}
@@ -39,61 +36,39 @@ pub returns-in-Refused : goal.returns-in-Refused
 returns-in-Refused c = sym (write_refused _ _ _ _ _ _ _ _ (sym c.tests-tests.ensures ∙ c.in-Refused.is))
 
 pub size-size-requires : goal.size-size-requires
-size-size-requires c = let fine : write_tests c.args.n c.args.w c.args.k c.args.order.now c.args.labels.now c.args.counts.now ≡ Fine =
-    sym c.tests-tests.ensures ∙ c.in_default.is in
-    let passed : Fit c.args.n c.args.w c.args.k c.args.order.now c.args.labels.now c.args.counts.now = fit _ _ _ _ _ _ fine in
-    let f = passed in (f.rooms.sizes.frames, omega (arith, f.rooms.each, f.rooms.sizes.frames))
+size-size-requires c =
+    let f = (fit _ _ _ _ _ _ (sym c.tests-tests.ensures ∙ c.in_default.is)) in (f.rooms.sizes.frames, omega (arith, f.rooms.each, f.rooms.sizes.frames))
 
 pub returns-then-not-fits : goal.returns-then-not-fits
 unfolding out_test
-returns-then-not-fits c = let fine : write_tests c.args.n c.args.w c.args.k c.args.order.now c.args.labels.now c.args.counts.now ≡ Fine =
-    sym c.tests-tests.ensures ∙ c.in_default.is in
-    let passed : Fit c.args.n c.args.w c.args.k c.args.order.now c.args.labels.now c.args.counts.now = fit _ _ _ _ _ _ fine in
-    let bytes : c.size-size.result ≡ length
-    (file_of c.args.n c.args.w c.args.k c.args.order.now c.args.labels.now c.args.counts.now) = c.size-size.ensures
-    ∙ sym (file_bytes _ _ _ _ _ _ passed) in
+returns-then-not-fits c =
+    let fine = sym c.tests-tests.ensures ∙ c.in_default.is in
     sym (write_out _ _ _ _ _ _ _ _ fine (test_refused OUT 0
-    (ap (out_fits _ _) (sym bytes) ∙ sym c.out_fits-fits.ensures ∙ c.if-not-fits.true)))
+    (ap (out_fits _ _) (sym (c.size-size.ensures ∙ sym (file_bytes _ _ _ _ _ _ (fit _ _ _ _ _ _ fine)))) ∙ sym c.out_fits-fits.ensures ∙ c.if-not-fits.true)))
 
 pub overflow_add-end : goal.overflow_add-end
-overflow_add-end c = let inside : (c.args.start ≤ length c.args.out.now) ×
-    (c.size-size.result ≤ length c.args.out.now - c.args.start) = out_held _ _ _
-    (sym c.out_fits-fits.ensures ∙ c.if-not-fits.false) in
-    omega (arith, inside)
+overflow_add-end c =
+    omega (arith, (out_held _ _ _ (sym c.out_fits-fits.ensures ∙ c.if-not-fits.false)))
 
 pub slice_bounds-fill-start : goal.slice_bounds-fill-start
-slice_bounds-fill-start c = let inside : (c.args.start ≤ length c.args.out.now) ×
-    (c.size-size.result ≤ length c.args.out.now - c.args.start) = out_held _ _ _
-    (sym c.out_fits-fits.ensures ∙ c.if-not-fits.false) in
-    omega (arith, inside)
+slice_bounds-fill-start c =
+    omega (arith, (out_held _ _ _ (sym c.out_fits-fits.ensures ∙ c.if-not-fits.false)))
 
 pub slice_bounds-fill-end : goal.slice_bounds-fill-end
-slice_bounds-fill-end c = let inside : (c.args.start ≤ length c.args.out.now) ×
-    (c.size-size.result ≤ length c.args.out.now - c.args.start) = out_held _ _ _
-    (sym c.out_fits-fits.ensures ∙ c.if-not-fits.false) in
-    omega (arith, inside)
+slice_bounds-fill-end c =
+    omega (arith, (out_held _ _ _ (sym c.out_fits-fits.ensures ∙ c.if-not-fits.false)))
 
 pub fill-requires : goal.fill-requires
-fill-requires c = let fine : write_tests c.args.n c.args.w c.args.k c.args.order.now c.args.labels.now c.args.counts.now ≡ Fine =
-    sym c.tests-tests.ensures ∙ c.in_default.is in
-    let passed : Fit c.args.n c.args.w c.args.k c.args.order.now c.args.labels.now c.args.counts.now = fit _ _ _ _ _ _ fine in
-    let bytes : c.size-size.result ≡ length
-    (file_of c.args.n c.args.w c.args.k c.args.order.now c.args.labels.now c.args.counts.now) = c.size-size.ensures
-    ∙ sym (file_bytes _ _ _ _ _ _ passed) in
-    let inside : (c.args.start ≤ length c.args.out.now) × (c.size-size.result ≤ length c.args.out.now - c.args.start) =
-    out_held _ _ _ (sym c.out_fits-fits.ensures ∙ c.if-not-fits.false) in
-    let (h, l) = inside in
-    (passed, stretch _ _ _ h l ∙ bytes)
+fill-requires c =
+    let passed = fit _ _ _ _ _ _ (sym c.tests-tests.ensures ∙ c.in_default.is) in
+    let (h, l) = (out_held _ _ _ (sym c.out_fits-fits.ensures ∙ c.if-not-fits.false)) in
+    (passed, stretch _ _ _ h l ∙ (c.size-size.ensures ∙ sym (file_bytes _ _ _ _ _ _ passed)))
 
 pub returns : goal.returns
-returns c = let fine : write_tests c.args.n c.args.w c.args.k c.args.order.now c.args.labels.now c.args.counts.now ≡ Fine =
-    sym c.tests-tests.ensures ∙ c.in_default.is in
-    let passed : Fit c.args.n c.args.w c.args.k c.args.order.now c.args.labels.now c.args.counts.now = fit _ _ _ _ _ _ fine in
-    let bytes : c.size-size.result ≡ length
-    (file_of c.args.n c.args.w c.args.k c.args.order.now c.args.labels.now c.args.counts.now) = c.size-size.ensures
-    ∙ sym (file_bytes _ _ _ _ _ _ passed) in
-    let inside : (c.args.start ≤ length c.args.out.now) × (c.size-size.result ≤ length c.args.out.now - c.args.start) =
-    out_held _ _ _ (sym c.out_fits-fits.ensures ∙ c.if-not-fits.false) in
-    let (h, l) = inside in
+returns c =
+    let fine = sym c.tests-tests.ensures ∙ c.in_default.is in
+    let bytes = c.size-size.ensures
+    ∙ sym (file_bytes _ _ _ _ _ _ (fit _ _ _ _ _ _ fine)) in
+    let (h, l) = (out_held _ _ _ (sym c.out_fits-fits.ensures ∙ c.if-not-fits.false)) in
     back c.args.out.now _ _ c.args.start c.size-size.result c.fill.ensures bytes
     ∙ sym (write_filled _ _ _ _ _ _ _ _ fine (out_fits_lem _ _ _ h (le_trans (le_of_eq (sym bytes)) l)))

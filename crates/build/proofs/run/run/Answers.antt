@@ -1,7 +1,7 @@
 -- The goals that the search leaves.
 use mathlib.Core.Path.{sym, ◌∙◌}
 use native.Mathlib.Omega.{arith}
-use Rattle.build.proofs.RunState.{AsLong, run_begins, run_ends, run_lengths, run_ready, run_next, run_stops}
+use Rattle.build.proofs.RunState.{run_begins, run_ends, run_lengths, run_ready, run_next, run_stops}
 use Rattle.build.proofs.run.run.Goals as goal
 
 pub loop-rank-init : goal.loop-rank-init
@@ -20,29 +20,24 @@ pub walk-walked-requires : goal.walk-walked-requires
 walk-walked-requires c = run_ready c.requires c.loop-rank.invariant c.loop-rank-test.true
 
 pub shape_of-labels-in_default : goal.shape_of-labels-in_default
-shape_of-labels-in_default c = let as_long : AsLong c.args.labels.now c.args.counts.now c.args.met.now c.args.queue.now c.args.noted.now c.loop-rank.labels c.loop-rank.counts c.loop-rank.met c.loop-rank.queue c.loop-rank.noted =
-    run_lengths c.requires c.loop-rank.invariant in
-    c.walk-walked.auto.labels ∙ as_long.of_labels
+shape_of-labels-in_default c =
+    c.walk-walked.auto.labels ∙ (run_lengths c.requires c.loop-rank.invariant).of_labels
 
 pub shape_of-counts-in_default : goal.shape_of-counts-in_default
-shape_of-counts-in_default c = let as_long : AsLong c.args.labels.now c.args.counts.now c.args.met.now c.args.queue.now c.args.noted.now c.loop-rank.labels c.loop-rank.counts c.loop-rank.met c.loop-rank.queue c.loop-rank.noted =
-    run_lengths c.requires c.loop-rank.invariant in
-    c.walk-walked.auto.counts ∙ as_long.of_counts
+shape_of-counts-in_default c =
+    c.walk-walked.auto.counts ∙ (run_lengths c.requires c.loop-rank.invariant).of_counts
 
 pub shape_of-met-in_default : goal.shape_of-met-in_default
-shape_of-met-in_default c = let as_long : AsLong c.args.labels.now c.args.counts.now c.args.met.now c.args.queue.now c.args.noted.now c.loop-rank.labels c.loop-rank.counts c.loop-rank.met c.loop-rank.queue c.loop-rank.noted =
-    run_lengths c.requires c.loop-rank.invariant in
-    c.walk-walked.auto.met ∙ as_long.of_met
+shape_of-met-in_default c =
+    c.walk-walked.auto.met ∙ (run_lengths c.requires c.loop-rank.invariant).of_met
 
 pub shape_of-queue-in_default : goal.shape_of-queue-in_default
-shape_of-queue-in_default c = let as_long : AsLong c.args.labels.now c.args.counts.now c.args.met.now c.args.queue.now c.args.noted.now c.loop-rank.labels c.loop-rank.counts c.loop-rank.met c.loop-rank.queue c.loop-rank.noted =
-    run_lengths c.requires c.loop-rank.invariant in
-    c.walk-walked.auto.queue ∙ as_long.of_queue
+shape_of-queue-in_default c =
+    c.walk-walked.auto.queue ∙ (run_lengths c.requires c.loop-rank.invariant).of_queue
 
 pub shape_of-noted-in_default : goal.shape_of-noted-in_default
-shape_of-noted-in_default c = let as_long : AsLong c.args.labels.now c.args.counts.now c.args.met.now c.args.queue.now c.args.noted.now c.loop-rank.labels c.loop-rank.counts c.loop-rank.met c.loop-rank.queue c.loop-rank.noted =
-    run_lengths c.requires c.loop-rank.invariant in
-    c.walk-walked.auto.noted ∙ as_long.of_noted
+shape_of-noted-in_default c =
+    c.walk-walked.auto.noted ∙ (run_lengths c.requires c.loop-rank.invariant).of_noted
 
 pub returns-in_default : goal.returns-in_default
 returns-in_default c = run_stops c.requires c.loop-rank.invariant c.loop-rank-test.true c.walk-walked.ensures.walked c.walk-walked.ensures.notes
@@ -53,29 +48,24 @@ loop-rank-preserved c = run_next c.requires c.loop-rank.invariant c.loop-rank-te
     (sym c.walk_verdict-verdict.ensures ∙ c.in-Fine.is)
 
 pub shape_of-labels : goal.shape_of-labels
-shape_of-labels c = let as_long : AsLong c.args.labels.now c.args.counts.now c.args.met.now c.args.queue.now c.args.noted.now c.loop-rank.labels c.loop-rank.counts c.loop-rank.met c.loop-rank.queue c.loop-rank.noted =
-    run_lengths c.requires c.loop-rank.invariant in
-    as_long.of_labels
+shape_of-labels c =
+    (run_lengths c.requires c.loop-rank.invariant).of_labels
 
 pub shape_of-counts : goal.shape_of-counts
-shape_of-counts c = let as_long : AsLong c.args.labels.now c.args.counts.now c.args.met.now c.args.queue.now c.args.noted.now c.loop-rank.labels c.loop-rank.counts c.loop-rank.met c.loop-rank.queue c.loop-rank.noted =
-    run_lengths c.requires c.loop-rank.invariant in
-    as_long.of_counts
+shape_of-counts c =
+    (run_lengths c.requires c.loop-rank.invariant).of_counts
 
 pub shape_of-met : goal.shape_of-met
-shape_of-met c = let as_long : AsLong c.args.labels.now c.args.counts.now c.args.met.now c.args.queue.now c.args.noted.now c.loop-rank.labels c.loop-rank.counts c.loop-rank.met c.loop-rank.queue c.loop-rank.noted =
-    run_lengths c.requires c.loop-rank.invariant in
-    as_long.of_met
+shape_of-met c =
+    (run_lengths c.requires c.loop-rank.invariant).of_met
 
 pub shape_of-queue : goal.shape_of-queue
-shape_of-queue c = let as_long : AsLong c.args.labels.now c.args.counts.now c.args.met.now c.args.queue.now c.args.noted.now c.loop-rank.labels c.loop-rank.counts c.loop-rank.met c.loop-rank.queue c.loop-rank.noted =
-    run_lengths c.requires c.loop-rank.invariant in
-    as_long.of_queue
+shape_of-queue c =
+    (run_lengths c.requires c.loop-rank.invariant).of_queue
 
 pub shape_of-noted : goal.shape_of-noted
-shape_of-noted c = let as_long : AsLong c.args.labels.now c.args.counts.now c.args.met.now c.args.queue.now c.args.noted.now c.loop-rank.labels c.loop-rank.counts c.loop-rank.met c.loop-rank.queue c.loop-rank.noted =
-    run_lengths c.requires c.loop-rank.invariant in
-    as_long.of_noted
+shape_of-noted c =
+    (run_lengths c.requires c.loop-rank.invariant).of_noted
 
 pub returns : goal.returns
 returns c = run_ends c.loop-rank-test.false c.loop-rank.invariant

@@ -92,41 +92,38 @@ module _ {e : ℕ} {o : List ℕ} {p : Pen} {rank joins : ℕ} (g : Given e o p 
   put_all = byte_end g.ready 24 (pair_bits e) three g.ready.small
       ((cut (both_of rank joins) p.nb (omega (arith, both-lt))).1 ∙ last)
 
+given : {e : ℕ} {o : List ℕ} {p : Pen} {rank joins : ℕ} → Ready o p (entry_fields e) → rank ≡ rank_of e → joins ≡ joins_of e
+    → Given e o p rank joins
+given ready its-rank its-joins = record { ready = ready; its-rank = its-rank; its-joins = its-joins }
+
 pub overflow_add-both : goal.overflow_add-both
-overflow_add-both c = let given : Given c.args.e c.args.out.now c.args.pen c.rank_of-rank.result c.joins_of-joins.result =
-    record { ready = c.requires; its-rank = c.rank_of-rank.ensures; its-joins = c.joins_of-joins.ensures } in
-    let b = both-lt given in omega arith
+overflow_add-both c =
+    let b = both-lt (given c.requires c.rank_of-rank.ensures c.joins_of-joins.ensures) in omega arith
 
 pub overflow_add-whole : goal.overflow_add-whole
-overflow_add-whole c = let given : Given c.args.e c.args.out.now c.args.pen c.rank_of-rank.result c.joins_of-joins.result =
-    record { ready = c.requires; its-rank = c.rank_of-rank.ensures; its-joins = c.joins_of-joins.ensures } in
-    record { fits = whole-fits given }
+overflow_add-whole c =
+    record { fits = whole-fits (given c.requires c.rank_of-rank.ensures c.joins_of-joins.ensures) }
 
 pub bounds-out-at : goal.bounds-out-at
-bounds-out-at c = let given : Given c.args.e c.args.out.now c.args.pen c.rank_of-rank.result c.joins_of-joins.result =
-    record { ready = c.requires; its-rank = c.rank_of-rank.ensures; its-joins = c.joins_of-joins.ensures } in
-    byte_room (none given)
+bounds-out-at c =
+    byte_room (none (given c.requires c.rank_of-rank.ensures c.joins_of-joins.ensures))
     (c.args.pen.nb + 16) (omega arith)
 
 pub bounds-out-at-2 : goal.bounds-out-at-2
-bounds-out-at-2 c = let given : Given c.args.e c.args.out.now c.args.pen c.rank_of-rank.result c.joins_of-joins.result =
-    record { ready = c.requires; its-rank = c.rank_of-rank.ensures; its-joins = c.joins_of-joins.ensures } in
-    byte_room (one given)
+bounds-out-at-2 c =
+    byte_room (one (given c.requires c.rank_of-rank.ensures c.joins_of-joins.ensures))
     (c.args.pen.nb + 8) (omega arith)
 
 pub bounds-out-at-3 : goal.bounds-out-at-3
-bounds-out-at-3 c = let given : Given c.args.e c.args.out.now c.args.pen c.rank_of-rank.result c.joins_of-joins.result =
-    record { ready = c.requires; its-rank = c.rank_of-rank.ensures; its-joins = c.joins_of-joins.ensures } in
-    byte_room (two given)
+bounds-out-at-3 c =
+    byte_room (two (given c.requires c.rank_of-rank.ensures c.joins_of-joins.ensures))
     c.args.pen.nb (omega arith)
 
 pub overflow_sub-acc : goal.overflow_sub-acc
-overflow_sub-acc c = let given : Given c.args.e c.args.out.now c.args.pen c.rank_of-rank.result c.joins_of-joins.result =
-    record { ready = c.requires; its-rank = c.rank_of-rank.ensures; its-joins = c.joins_of-joins.ensures } in
-    let b = both-lt given in
+overflow_sub-acc c =
+    let b = both-lt (given c.requires c.rank_of-rank.ensures c.joins_of-joins.ensures) in
     (cut (both_of c.rank_of-rank.result c.joins_of-joins.result) c.args.pen.nb (omega arith)).0
 
 pub returns : goal.returns
-returns c = let given : Given c.args.e c.args.out.now c.args.pen c.rank_of-rank.result c.joins_of-joins.result =
-    record { ready = c.requires; its-rank = c.rank_of-rank.ensures; its-joins = c.joins_of-joins.ensures } in
-    put_all given
+returns c =
+    put_all (given c.requires c.rank_of-rank.ensures c.joins_of-joins.ensures)

@@ -1,5 +1,4 @@
 -- The goals that the search leaves.
-use Prim.Native.Nat.{◌<◌}
 use native.Mathlib.Omega.{arith}
 use native.Mathlib.Nat.{sub-zero}
 use Rattle.fields.proofs.LayoutLaws.{fields_next, fields_end}
@@ -10,10 +9,11 @@ pub loop-v-init : goal.loop-v-init
 loop-v-init c = (omega arith, rw sub-zero (left_start c.requires.0))
 
 pub put_row-tip-requires : goal.put_row-tip-requires
-put_row-tip-requires c = let t : c.loop-v.v < c.args.n = c.loop-v-test.true in (
-  left_ready c.loop-v.invariant.1 _ _ (fields_next _ c.loop-v.v _ t),
-  c.requires.1 c.loop-v.v t,
-)
+put_row-tip-requires c =
+    let t = c.loop-v-test.true in (
+      left_ready c.loop-v.invariant.1 _ _ (fields_next _ c.loop-v.v _ t),
+      c.requires.1 c.loop-v.v t,
+    )
 
 pub loop-v-preserved : goal.loop-v-preserved
 loop-v-preserved c = (

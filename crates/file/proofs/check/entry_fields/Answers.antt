@@ -1,11 +1,10 @@
 -- `entry_fields` goes by the cases of its test: a short rank or one of k or more, one below `low`, and else what the joins give.
-use Prim.Native.Nat.{◌+◌, ◌<◌}
+use Prim.Native.Nat.{◌+◌}
 use mathlib.Core.Path.{◌≡◌, sym, ◌∙◌}
 use native.Mathlib.Omega.{arith}
 use lib.Dec.{ltb}
-use Rattle.refusal.specs.declared.Verdict.{Verdict}
 use Rattle.fields.specs.Bits.{field_at}
-use Rattle.file.specs.Reader.{short_test, field_test, entry_test}
+use Rattle.file.specs.Reader.{field_test, entry_test}
 use Rattle.file.proofs.Fields.{entry_rank, entry_low, entry_left}
 use Rattle.file.proofs.Steps.{step_fine, step_refused, went_on, below, stopped}
 use Rattle.file.proofs.check.entry_fields.Goals as goal
@@ -15,24 +14,20 @@ returns-in_default c = c.in_default.is ∙ step_refused _ (entry_rank _ _ _ _ _
     (stopped _ _ (sym c.in_default.is ∙ c.field-got.ensures)))
 
 pub returns-then-rank-low : goal.returns-then-rank-low
-returns-then-rank-low c = let ranked : (short_test c.args.bytes.now c.args.p 12 ≡ Verdict.Fine) ×
-    (c.in-On.rank ≡ field_at c.args.bytes.now c.args.p 12) × (c.in-On.rank < c.args.k) = below _ _ _ _
-    (sym c.in-On.is ∙ c.field-got.ensures) in
-    let (e, is, high) = ranked in
+returns-then-rank-low c =
+    let (e, is, high) = (below _ _ _ _ (sym c.in-On.is ∙ c.field-got.ensures)) in
     c.stop.ensures ∙ step_refused _ (entry_low _ _ _ _ _ e (omega (arith, c.if-rank-low.true)))
 
 pub returns-in_default-more : goal.returns-in_default-more
-returns-in_default-more c = let ranked : (short_test c.args.bytes.now c.args.p 12 ≡ Verdict.Fine) ×
-    (c.in-On.rank ≡ field_at c.args.bytes.now c.args.p 12) × (c.in-On.rank < c.args.k) = below _ _ _ _
-    (sym c.in-On.is ∙ c.field-got.ensures) in
+returns-in_default-more c =
     let left_over : entry_test c.args.bytes.now c.args.n c.args.k c.args.p c.args.low ≡ field_test c.args.bytes.now
     (c.args.p + 12) 12 (ltb (field_at c.args.bytes.now (c.args.p + 12) 12) c.args.n) = let (e, is, high) =
-    ranked in entry_left _ _ _ _ _ e (omega (arith, c.if-rank-low.false)) (omega arith) in
+    (below _ _ _ _ (sym c.in-On.is ∙ c.field-got.ensures)) in entry_left _ _ _ _ _ e (omega (arith, c.if-rank-low.false)) (omega arith) in
     c.in_default-more.is ∙ step_refused _ (left_over ∙ stopped _ _ (sym c.in_default-more.is ∙ c.field-more.ensures))
 
 pub returns : goal.returns
-returns c = let ranked : (short_test c.args.bytes.now c.args.p 12 ≡ Verdict.Fine) ×
-    (c.in-On.rank ≡ field_at c.args.bytes.now c.args.p 12) × (c.in-On.rank < c.args.k) = below _ _ _ _
+returns c =
+    let ranked = below _ _ _ _
     (sym c.in-On.is ∙ c.field-got.ensures) in
     let left_over : entry_test c.args.bytes.now c.args.n c.args.k c.args.p c.args.low ≡ field_test c.args.bytes.now
     (c.args.p + 12) 12 (ltb (field_at c.args.bytes.now (c.args.p + 12) 12) c.args.n) = let (e, is, high) =

@@ -1,5 +1,5 @@
 -- The length test, one room after the other.
-use Prim.Native.Nat.{◌*◌, ◌≤◌}
+use Prim.Native.Nat.{◌*◌}
 use native.Mathlib.Omega.{arith}
 use native.Mathlib.Nat.{mul-le-mul}
 use borrow.Author.Tests.{eq-eqb, ne_eqb}
@@ -11,7 +11,8 @@ unfolding lengths_fit
 returns-then-order-n c = simp (ne_eqb c.args.order c.args.n c.if-order-n.true)
 
 pub overflow_mul-n : goal.overflow_mul-n
-overflow_mul-n c = let p : c.args.n * c.args.w ≤ 4096 * 256 = mul-le-mul c.requires.0 c.requires.1 in
+overflow_mul-n c =
+    let p = mul-le-mul c.requires.0 c.requires.1 in
     omega arith
 
 pub returns-then-labels-n : goal.returns-then-labels-n

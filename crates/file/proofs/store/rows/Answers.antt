@@ -1,9 +1,7 @@
 -- The goals that the search leaves.
 use mathlib.Core.Path.{refl}
 use native.Mathlib.Omega.{arith}
-use lib.ListN.{length}
 use Rattle.fields.specs.Bits.{byte_len}
-use Rattle.file.specs.Inner.{RowThere}
 use Rattle.file.proofs.Stores.{rows_none, next_room, next_row, next_left, rows_stored}
 use Rattle.fields.proofs.Bits.{field_lt}
 use Rattle.file.proofs.store.rows.Goals as goal
@@ -20,29 +18,21 @@ pub overflow_cast-counts : goal.overflow_cast-counts
 overflow_cast-counts c = omega (arith, c.get-count.ensures, field_lt c.args.bytes.now c.loop-v.p 9)
 
 pub row-requires : goal.row-requires
-row-requires c = let counted : RowThere c.args.bytes.now c.loop-v.p c.get-count.result c.args.w
-    (length c.loop-v.labels) c.loop-v.base =
-    next_row c.requires c.loop-v.invariant c.loop-v-test.true c.get-count.ensures in
-    counted
+row-requires c =
+    (next_row c.requires c.loop-v.invariant c.loop-v-test.true c.get-count.ensures)
 
 pub overflow_add-p-in-loop-v : goal.overflow_add-p-in-loop-v
-overflow_add-p-in-loop-v c = let counted : RowThere c.args.bytes.now c.loop-v.p c.get-count.result c.args.w
-    (length c.loop-v.labels) c.loop-v.base =
-    next_row c.requires c.loop-v.invariant c.loop-v-test.true c.get-count.ensures in
-    omega (arith, counted.near)
+overflow_add-p-in-loop-v c =
+    omega (arith, (next_row c.requires c.loop-v.invariant c.loop-v-test.true c.get-count.ensures).near)
 
 pub overflow_mul-p-in-loop-v : goal.overflow_mul-p-in-loop-v
-overflow_mul-p-in-loop-v c = let counted : RowThere c.args.bytes.now c.loop-v.p c.get-count.result c.args.w
-    (length c.loop-v.labels) c.loop-v.base =
-    next_row c.requires c.loop-v.invariant c.loop-v-test.true c.get-count.ensures in
-    let row = counted in
+overflow_mul-p-in-loop-v c =
+    let row = (next_row c.requires c.loop-v.invariant c.loop-v-test.true c.get-count.ensures) in
     omega (arith, row.fits, row.wide)
 
 pub overflow_add-p-in-loop-v-2 : goal.overflow_add-p-in-loop-v-2
-overflow_add-p-in-loop-v-2 c = let counted : RowThere c.args.bytes.now c.loop-v.p c.get-count.result c.args.w
-    (length c.loop-v.labels) c.loop-v.base =
-    next_row c.requires c.loop-v.invariant c.loop-v-test.true c.get-count.ensures in
-    let row = counted in
+overflow_add-p-in-loop-v-2 c =
+    let row = (next_row c.requires c.loop-v.invariant c.loop-v-test.true c.get-count.ensures) in
     omega (arith, row.near, row.fits, row.wide)
 
 pub overflow_add-base : goal.overflow_add-base

@@ -48,6 +48,12 @@ ended o o1 o2 p fs e u d b =
     ∙ ap₂ (λ (x k : ℕ). x * 2 ^ pad_len k) u.number bits in
     sym (val_bytes o2 b) ∙ ap₂ bytes_of long whole
 
+-- behind the header the order and the rows are left
+headed : {n w k : ℕ} {O labels counts o o' : List ℕ} {p : Pen} → Fit n w k O labels counts → length o ≡ length
+    (file_of n w k O labels counts) → Put o empty (header_fields n k) o' p →
+    Left o empty (file_fields n w k O labels counts) o' p (order_fields O ++ rows_fields w labels counts 0 n)
+headed f e done = left_step (begun _ _ _ _ _ _ _ f e) _ _ refl done
+
 pub put_header-headed-requires : goal.put_header-headed-requires
 put_header-headed-requires c = (
   left_ready (begun _ _ _ _ _ _ _ c.requires.0 c.requires.1) _ _ refl,
@@ -55,48 +61,18 @@ put_header-headed-requires c = (
 )
 
 pub put_order-ordered-requires : goal.put_order-ordered-requires
-put_order-ordered-requires c = let headed : Left c.args.out.now empty
-    (file_fields c.args.n c.args.w c.args.k c.args.order.now c.args.labels.now c.args.counts.now) c.put_header-headed.new.out c.put_header-headed.result
-    (order_fields c.args.order.now ++ rows_fields c.args.w c.args.labels.now c.args.counts.now 0 c.args.n) = left_step
-    (begun _ _ _ _ _ _ _ c.requires.0 c.requires.1) _ _ refl c.put_header-headed.ensures in
-    left_ready headed _ _ refl
+put_order-ordered-requires c =
+    left_ready (headed c.requires.0 c.requires.1 c.put_header-headed.ensures) _ _ refl
 
 pub put_rows-done-requires : goal.put_rows-done-requires
-put_rows-done-requires c = let headed : Left c.args.out.now empty
-    (file_fields c.args.n c.args.w c.args.k c.args.order.now c.args.labels.now c.args.counts.now) c.put_header-headed.new.out c.put_header-headed.result
-    (order_fields c.args.order.now ++ rows_fields c.args.w c.args.labels.now c.args.counts.now 0 c.args.n) = left_step
-    (begun _ _ _ _ _ _ _ c.requires.0 c.requires.1) _ _ refl c.put_header-headed.ensures in
-    let ordered : Left c.args.out.now empty
-    (file_fields c.args.n c.args.w c.args.k c.args.order.now c.args.labels.now c.args.counts.now) c.put_order-ordered.new.out c.put_order-ordered.result
-    (rows_fields c.args.w c.args.labels.now c.args.counts.now 0 c.args.n) =
-    left_step headed _ _ refl c.put_order-ordered.ensures in
-    (ordered.ready, fit_lies _ _ _ _ _ _ c.requires.0)
+put_rows-done-requires c =
+    ((left_step (headed c.requires.0 c.requires.1 c.put_header-headed.ensures) _ _ refl c.put_order-ordered.ensures).ready, fit_lies _ _ _ _ _ _ c.requires.0)
 
 pub close-requires : goal.close-requires
-close-requires c = let headed : Left c.args.out.now empty
-    (file_fields c.args.n c.args.w c.args.k c.args.order.now c.args.labels.now c.args.counts.now) c.put_header-headed.new.out c.put_header-headed.result
-    (order_fields c.args.order.now ++ rows_fields c.args.w c.args.labels.now c.args.counts.now 0 c.args.n) = left_step
-    (begun _ _ _ _ _ _ _ c.requires.0 c.requires.1) _ _ refl c.put_header-headed.ensures in
-    let ordered : Left c.args.out.now empty
-    (file_fields c.args.n c.args.w c.args.k c.args.order.now c.args.labels.now c.args.counts.now) c.put_order-ordered.new.out c.put_order-ordered.result
-    (rows_fields c.args.w c.args.labels.now c.args.counts.now 0 c.args.n) =
-    left_step headed _ _ refl c.put_order-ordered.ensures in
-    let finished : Left c.args.out.now empty
-    (file_fields c.args.n c.args.w c.args.k c.args.order.now c.args.labels.now c.args.counts.now) c.put_rows-done.new.out c.put_rows-done.result [] =
-    left_step ordered _ [] (sym (append-nil _)) c.put_rows-done.ensures in
-    finished.ready
+close-requires c =
+    (left_step (left_step (headed c.requires.0 c.requires.1 c.put_header-headed.ensures) _ _ refl c.put_order-ordered.ensures) _ [] (sym (append-nil _)) c.put_rows-done.ensures).ready
 
 pub returns : goal.returns
 unfolding file_of
-returns c = let headed : Left c.args.out.now empty
-    (file_fields c.args.n c.args.w c.args.k c.args.order.now c.args.labels.now c.args.counts.now) c.put_header-headed.new.out c.put_header-headed.result
-    (order_fields c.args.order.now ++ rows_fields c.args.w c.args.labels.now c.args.counts.now 0 c.args.n) = left_step
-    (begun _ _ _ _ _ _ _ c.requires.0 c.requires.1) _ _ refl c.put_header-headed.ensures in
-    let ordered : Left c.args.out.now empty
-    (file_fields c.args.n c.args.w c.args.k c.args.order.now c.args.labels.now c.args.counts.now) c.put_order-ordered.new.out c.put_order-ordered.result
-    (rows_fields c.args.w c.args.labels.now c.args.counts.now 0 c.args.n) =
-    left_step headed _ _ refl c.put_order-ordered.ensures in
-    let finished : Left c.args.out.now empty
-    (file_fields c.args.n c.args.w c.args.k c.args.order.now c.args.labels.now c.args.counts.now) c.put_rows-done.new.out c.put_rows-done.result [] =
-    left_step ordered _ [] (sym (append-nil _)) c.put_rows-done.ensures in
-    ended _ _ _ _ _ c.requires.1 finished c.close.ensures (λ i. (c.type_inv.out i).fits)
+returns c =
+    ended _ _ _ _ _ c.requires.1 (left_step (left_step (headed c.requires.0 c.requires.1 c.put_header-headed.ensures) _ _ refl c.put_order-ordered.ensures) _ [] (sym (append-nil _)) c.put_rows-done.ensures) c.close.ensures (λ i. (c.type_inv.out i).fits)

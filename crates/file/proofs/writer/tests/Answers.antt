@@ -43,29 +43,19 @@ returns-then-not-sizes c = c.refused.ensures
     ∙ sym (after_refused _ (test_refused SIZE 0 (sym c.index_sizes-sizes.ensures ∙ c.if-not-sizes.true)))
 
 pub lengths_fit-lengths-requires : goal.lengths_fit-lengths-requires
-lengths_fit-lengths-requires c = let one-passed : index_sizes c.args.n c.args.w c.args.k ≡ true =
-    sym c.index_sizes-sizes.ensures ∙ c.if-not-sizes.false in
-    let (z, stop) = sizes_in _ _ _ one-passed in
+lengths_fit-lengths-requires c =
+    let (z, stop) = sizes_in _ _ _ (sym c.index_sizes-sizes.ensures ∙ c.if-not-sizes.false) in
     (z.frames, z.width)
 
 pub returns-then-not-lengths : goal.returns-then-not-lengths
-returns-then-not-lengths c = let one-passed : index_sizes c.args.n c.args.w c.args.k ≡ true =
-    sym c.index_sizes-sizes.ensures ∙ c.if-not-sizes.false in
+returns-then-not-lengths c =
     c.refused-then-not-lengths.ensures
-    ∙ sym (at_length _ _ _ _ _ _ one-passed (sym c.lengths_fit-lengths.ensures ∙ c.if-not-lengths.true))
+    ∙ sym (at_length _ _ _ _ _ _ (sym c.index_sizes-sizes.ensures ∙ c.if-not-sizes.false) (sym c.lengths_fit-lengths.ensures ∙ c.if-not-lengths.true))
 
 pub returns-in_default : goal.returns-in_default
-returns-in_default c = let one-passed : index_sizes c.args.n c.args.w c.args.k ≡ true = sym c.index_sizes-sizes.ensures
-    ∙ c.if-not-sizes.false in
-    let left_over : write_tests c.args.n c.args.w c.args.k c.args.order.now c.args.labels.now c.args.counts.now ≡
-    (check_order c.args.n c.args.order.now then check_rows c.args.n c.args.w c.args.k c.args.labels.now c.args.counts.now) =
-    at-order _ _ _ _ _ _ one-passed (sym c.lengths_fit-lengths.ensures ∙ c.if-not-lengths.false) in
-    sym (left_over ∙ after_refused _ (sym c.check_order-once.ensures.answer ∙ c.in_default.is) ∙ sym c.in_default.is)
+returns-in_default c =
+    sym ((at-order _ _ _ _ _ _ (sym c.index_sizes-sizes.ensures ∙ c.if-not-sizes.false) (sym c.lengths_fit-lengths.ensures ∙ c.if-not-lengths.false)) ∙ after_refused _ (sym c.check_order-once.ensures.answer ∙ c.in_default.is) ∙ sym c.in_default.is)
 
 pub returns : goal.returns
-returns c = let one-passed : index_sizes c.args.n c.args.w c.args.k ≡ true = sym c.index_sizes-sizes.ensures
-    ∙ c.if-not-sizes.false in
-    let left_over : write_tests c.args.n c.args.w c.args.k c.args.order.now c.args.labels.now c.args.counts.now ≡
-    (check_order c.args.n c.args.order.now then check_rows c.args.n c.args.w c.args.k c.args.labels.now c.args.counts.now) =
-    at-order _ _ _ _ _ _ one-passed (sym c.lengths_fit-lengths.ensures ∙ c.if-not-lengths.false) in
-    sym (left_over ∙ after_fine _ (sym c.check_order-once.ensures.answer ∙ c.in-Fine.is) ∙ sym c.check_rows.ensures.answer)
+returns c =
+    sym ((at-order _ _ _ _ _ _ (sym c.index_sizes-sizes.ensures ∙ c.if-not-sizes.false) (sym c.lengths_fit-lengths.ensures ∙ c.if-not-lengths.false)) ∙ after_fine _ (sym c.check_order-once.ensures.answer ∙ c.in-Fine.is) ∙ sym c.check_rows.ensures.answer)

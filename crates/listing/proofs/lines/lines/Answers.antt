@@ -1,12 +1,11 @@
 -- The goals that the search leaves.
-use Prim.Native.Nat.{ℕ, ◌<◌}
+use Prim.Native.Nat.{ℕ}
 use native.Mathlib.Omega.{arith}
 use mathlib.Core.Path.{◌≡◌, sym, ap, subst, ◌∙◌}
 use mathlib.Core.List.{List}
 use lib.ListN.{length}
 use Rattle.entry.specs.Inner.{RanksIn}
-use Rattle.rows.specs.Rooms.{row_at}
-use Rattle.listing.specs.Lines.{WIDTH, texts, line_text}
+use Rattle.listing.specs.Lines.{texts, line_text}
 use Rattle.listing.proofs.TextLaws.{put_none, put_as}
 use Rattle.listing.proofs.LineLaws.{put_text, shown_row, shown_few, shown_ranks}
 use Rattle.listing.proofs.lines.lines.Goals as goal
@@ -22,10 +21,9 @@ pub row_part-row-requires : goal.row_part-row-requires
 row_part-row-requires c = tt
 
 pub line-end-requires : goal.line-end-requires
-line-end-requires c = let row_is : c.row_part-row.result.now ≡ row_at WIDTH c.args.labels.now c.args.counts.now c.loop-v.v =
-    c.row_part-row.ensures.entries ∙ shown_row c.requires.shown _ c.loop-v-test.true in
-    let inside : c.loop-v.v < length c.args.counts.now = c.loop-v-test.true in
-    let same = row_is in (
+line-end-requires c =
+    let inside = c.loop-v-test.true in
+    let same = (c.row_part-row.ensures.entries ∙ shown_row c.requires.shown _ c.loop-v-test.true) in (
       omega (
         arith,
         ap length same,
@@ -38,14 +36,12 @@ line-end-requires c = let row_is : c.row_part-row.result.now ≡ row_at WIDTH c.
     )
 
 pub loop-v-preserved : goal.loop-v-preserved
-loop-v-preserved c = let row_is : c.row_part-row.result.now ≡ row_at WIDTH c.args.labels.now c.args.counts.now c.loop-v.v =
-    c.row_part-row.ensures.entries ∙ shown_row c.requires.shown _ c.loop-v-test.true in
-    let inside : c.loop-v.v < length c.args.counts.now = c.loop-v-test.true in
-    let same = row_is in (
+loop-v-preserved c =
+    let same = (c.row_part-row.ensures.entries ∙ shown_row c.requires.shown _ c.loop-v-test.true) in (
       omega arith,
       put_text _ c.loop-v.v c.loop-v.invariant.1
           (put_as (ap (line_text c.args.order.now c.loop-v.v) same) c.line-end.ensures.put),
-      omega (arith, ap length same, shown_few c.requires.shown c.loop-v.v inside, c.line-end.ensures.near, c.loop-v.invariant.2),
+      omega (arith, ap length same, shown_few c.requires.shown c.loop-v.v (c.loop-v-test.true), c.line-end.ensures.near, c.loop-v.invariant.2),
     )
 
 pub shape_of-out : goal.shape_of-out

@@ -1,7 +1,6 @@
 -- The tests together are `in_room`.
-use Prim.Native.Nat.{ℕ, ◌-◌, ◌*◌}
+use Prim.Native.Nat.{◌-◌, ◌*◌}
 use mathlib.Core.Path.{sym}
-use mathlib.Core.List.{List}
 use native.Mathlib.Nat.{mul-le-mul}
 use native.Mathlib.Omega.{arith}
 use borrow.Author.Tests.{le-leb, leb-true}
@@ -29,8 +28,9 @@ pub returns-then-labels-start : goal.returns-then-labels-start
 returns-then-labels-start c = sym (not_in_room c.args.w c.args.labels.now c.args.v c.args.count (λ h k l. omega arith))
 
 pub returns : goal.returns
-returns c = let labels : List ℕ = c.args.labels.now in
-    let left : ℕ = length labels - c.args.v * c.args.w in
+returns c =
+    let labels = c.args.labels.now in
+    let left = length labels - c.args.v * c.args.w in
     same_truth _ _
     (λ e. in_room_lem c.args.w labels c.args.v c.args.count (omega arith) (omega arith)
     (omega (arith, leb-true c.args.count left e)))

@@ -1,9 +1,7 @@
 -- The goals that the search leaves.
-use mathlib.Core.Path.{◌≡◌, sym, ap, subst, ◌∙◌}
+use mathlib.Core.Path.{sym, ap, subst, ◌∙◌}
 use native.Mathlib.Omega.{arith}
-use lib.ListN.{get_or}
-use Rattle.rows.specs.Rooms.{row_at}
-use Rattle.targets.specs.Inner.{RanksIn, RowKnown, reach_of, reach_to}
+use Rattle.targets.specs.Inner.{RanksIn, reach_of, reach_to}
 use Rattle.targets.proofs.ByRank.{part_known}
 use Rattle.targets.proofs.NearestLaws.{fewest_none, fewest_less, fewest_kept, reached_record, reached_none}
 use Rattle.targets.proofs.nearest.first_reached.Goals as goal
@@ -19,23 +17,14 @@ pub bounds-counts-frame : goal.bounds-counts-frame
 bounds-counts-frame c = (c.requires.rows c.loop-i.i c.loop-i-test.true).row.counted
 
 pub reach-joins-requires : goal.reach-joins-requires
-reach-joins-requires c = let known : let frame =
-    get_or c.args.frames.now c.loop-i.i 0 in RowKnown c.args.w c.args.labels.now c.args.counts.now c.args.noted.now frame =
-    c.requires.rows _ c.loop-i-test.true in
-    let row : let frame = get_or c.args.frames.now c.loop-i.i 0 in c.row_part-row.result.now ≡ row_at c.args.w c.args.labels.now c.args.counts.now frame =
-    c.row_part-row.ensures.entries ∙ part_known known in
-    (subst (RanksIn _) (sym row) known.ranks, c.requires.low)
+reach-joins-requires c =
+    let known = c.requires.rows _ c.loop-i-test.true in
+    (subst (RanksIn _) (sym (c.row_part-row.ensures.entries ∙ part_known known)) known.ranks, c.requires.low)
 
 pub loop-i-preserved : goal.loop-i-preserved
 unfolding reach_to
-loop-i-preserved c = let known : let frame =
-    get_or c.args.frames.now c.loop-i.i 0 in RowKnown c.args.w c.args.labels.now c.args.counts.now c.args.noted.now frame =
-    c.requires.rows _ c.loop-i-test.true in
-    let row : let frame = get_or c.args.frames.now c.loop-i.i 0 in c.row_part-row.result.now ≡ row_at c.args.w c.args.labels.now c.args.counts.now frame =
-    c.row_part-row.ensures.entries ∙ part_known known in
-    let joins : c.reach-joins.result ≡ reach_to c.args.w c.args.labels.now c.args.counts.now c.args.frames.now c.args.noted.now c.loop-i.i =
-    c.reach-joins.ensures ∙ ap (reach_of _) row in
-    let e = joins in (
+loop-i-preserved c =
+    let e = (c.reach-joins.ensures ∙ ap (reach_of _) (c.row_part-row.ensures.entries ∙ part_known (c.requires.rows _ c.loop-i-test.true))) in (
       omega arith,
       elim c.if-joins-fewest.branch [
         | then-joins-fewest w ↦ fewest_less c.loop-i.invariant.1 (omega (arith, w.if-joins-fewest.true, e))

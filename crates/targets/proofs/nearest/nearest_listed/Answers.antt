@@ -12,8 +12,8 @@ returns-then-count-gt-MOST_TARGETS c = sym (nearest_many _ _ _ _ _ _
     (omega (arith, length_in c.args.listed, c.if-count-gt-MOST_TARGETS.true)))
 
 pub slice_bounds-nearest_of-end : goal.slice_bounds-nearest_of-end
-slice_bounds-nearest_of-end c = let long : length c.args.listed.frames ≡ 16 =
-    c.well_formed.1.1.1.1.1.0.1.1.1.0.1.0.1 in omega (arith, long)
+slice_bounds-nearest_of-end c =
+    omega (arith, (c.well_formed.1.1.1.1.1.0.1.1.1.0.1.0.1))
 
 pub returns : goal.returns
 returns c = c.nearest_of.ensures ∙ ap (nearest_of _ _ _ _ _)

@@ -1,12 +1,9 @@
 -- A refusal of the tests stands; behind fine tests the asked frame's row is noted in a blank table, against which the
 -- records' rows are read.
-use mathlib.Core.Path.{◌≡◌, sym, ◌∙◌}
+use mathlib.Core.Path.{sym, ◌∙◌}
 use native.Mathlib.Omega.{arith}
-use Rattle.refusal.specs.declared.Verdict.TheVariants.{Fine}
-use Rattle.rows.specs.Rooms.{row_at}
-use Rattle.targets.specs.Nearest.{nearest_tests}
 use Rattle.targets.proofs.NearestLaws.{asked_part, asked_ranks, asked_rows, nearest_reached, nearest_refused}
-use Rattle.targets.proofs.TestLaws.{NearestAsked, nearest_asked}
+use Rattle.targets.proofs.TestLaws.{nearest_asked}
 use Rattle.targets.proofs.nearest.nearest_of.Goals as goal
 
 pub returns-in-Refused : goal.returns-in-Refused
@@ -14,41 +11,26 @@ returns-in-Refused c = sym
     (nearest_refused _ _ _ _ _ _ (sym c.check_nearest-fine.ensures ∙ c.in-Refused.is))
 
 pub offset_bounds-counts-asked : goal.offset_bounds-counts-asked
-offset_bounds-counts-asked c = let fine : nearest_tests c.args.n c.args.w c.args.labels.now c.args.counts.now c.args.asked c.args.frames.now ≡ Fine =
-    sym c.check_nearest-fine.ensures ∙ c.in_default.is in
-    let asked : NearestAsked c.args.n c.args.w c.args.labels.now c.args.counts.now c.args.asked c.args.frames.now =
-    nearest_asked _ _ _ _ _ _ fine in
+offset_bounds-counts-asked c =
+    let asked = nearest_asked _ _ _ _ _ _ (sym c.check_nearest-fine.ensures ∙ c.in_default.is) in
     omega (arith, asked.inside, asked.rooms.sizes.frames)
 
 pub bounds-counts-asked : goal.bounds-counts-asked
-bounds-counts-asked c = let fine : nearest_tests c.args.n c.args.w c.args.labels.now c.args.counts.now c.args.asked c.args.frames.now ≡ Fine =
-    sym c.check_nearest-fine.ensures ∙ c.in_default.is in
-    let asked : NearestAsked c.args.n c.args.w c.args.labels.now c.args.counts.now c.args.asked c.args.frames.now =
-    nearest_asked _ _ _ _ _ _ fine in
+bounds-counts-asked c =
+    let asked = nearest_asked _ _ _ _ _ _ (sym c.check_nearest-fine.ensures ∙ c.in_default.is) in
     omega (arith, asked.inside, asked.rooms.each)
 
 pub note-requires : goal.note-requires
-note-requires c = let fine : nearest_tests c.args.n c.args.w c.args.labels.now c.args.counts.now c.args.asked c.args.frames.now ≡ Fine =
-    sym c.check_nearest-fine.ensures ∙ c.in_default.is in
-    let asked : NearestAsked c.args.n c.args.w c.args.labels.now c.args.counts.now c.args.asked c.args.frames.now =
-    nearest_asked _ _ _ _ _ _ fine in
-    let row : c.row_part.result.now ≡ row_at c.args.w c.args.labels.now c.args.counts.now c.args.asked =
-    c.row_part.ensures.entries ∙ asked_part asked in
-    asked_ranks asked row
+note-requires c =
+    let asked = nearest_asked _ _ _ _ _ _ (sym c.check_nearest-fine.ensures ∙ c.in_default.is) in
+    asked_ranks asked (c.row_part.ensures.entries ∙ asked_part asked)
 
 pub first_reached-requires : goal.first_reached-requires
-first_reached-requires c = let fine : nearest_tests c.args.n c.args.w c.args.labels.now c.args.counts.now c.args.asked c.args.frames.now ≡ Fine =
-    sym c.check_nearest-fine.ensures ∙ c.in_default.is in
-    let asked : NearestAsked c.args.n c.args.w c.args.labels.now c.args.counts.now c.args.asked c.args.frames.now =
-    nearest_asked _ _ _ _ _ _ fine in
-    asked_rows asked _ c.note.ensures
+first_reached-requires c =
+    asked_rows (nearest_asked _ _ _ _ _ _ (sym c.check_nearest-fine.ensures ∙ c.in_default.is)) _ c.note.ensures
 
 pub returns : goal.returns
-returns c = let fine : nearest_tests c.args.n c.args.w c.args.labels.now c.args.counts.now c.args.asked c.args.frames.now ≡ Fine =
-    sym c.check_nearest-fine.ensures ∙ c.in_default.is in
-    let asked : NearestAsked c.args.n c.args.w c.args.labels.now c.args.counts.now c.args.asked c.args.frames.now =
-    nearest_asked _ _ _ _ _ _ fine in
-    let row : c.row_part.result.now ≡ row_at c.args.w c.args.labels.now c.args.counts.now c.args.asked =
-    c.row_part.ensures.entries ∙ asked_part asked in
+returns c =
+    let fine = sym c.check_nearest-fine.ensures ∙ c.in_default.is in
     c.first_reached.ensures
-    ∙ nearest_reached _ _ _ _ _ _ fine row c.note.ensures
+    ∙ nearest_reached _ _ _ _ _ _ fine (c.row_part.ensures.entries ∙ asked_part (nearest_asked _ _ _ _ _ _ fine)) c.note.ensures

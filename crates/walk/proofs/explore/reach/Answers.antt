@@ -6,14 +6,12 @@ use Rattle.walk.proofs.BfsStart.{bfs_start}
 use Rattle.walk.proofs.explore.reach.Goals as goal
 
 pub bounds-met-hub : goal.bounds-met-hub
-bounds-met-hub c = let met_long : length c.args.met.now ≡ length c.args.counts.now = ap length c.requires.met_zero
-    ∙ length-replicate _ 0 in
-    omega (arith, c.requires.hub_in, met_long)
+bounds-met-hub c =
+    omega (arith, c.requires.hub_in, (ap length c.requires.met_zero ∙ length-replicate _ 0))
 
 pub bounds-queue-0 : goal.bounds-queue-0
-bounds-queue-0 c = let queue_long : length c.args.queue.now ≡ length c.args.counts.now = ap length c.requires.queue_zero
-    ∙ length-replicate _ 0 in
-    omega (arith, c.requires.hub_in, queue_long)
+bounds-queue-0 c =
+    omega (arith, c.requires.hub_in, (ap length c.requires.queue_zero ∙ length-replicate _ 0))
 
 pub loop-head-init : goal.loop-head-init
 loop-head-init c = bfs_start _ _ _ _ _ c.requires.hub_in c.requires.met_zero c.requires.queue_zero
@@ -41,14 +39,12 @@ pub loop-head-preserved : goal.loop-head-preserved
 loop-head-preserved c = rw c.loop-head.invariant.first at c.step-tail.ensures
 
 pub shape_of-met : goal.shape_of-met
-shape_of-met c = let met_long : length c.args.met.now ≡ length c.args.counts.now = ap length c.requires.met_zero
-    ∙ length-replicate _ 0 in
-    c.loop-head.invariant.long ∙ sym met_long
+shape_of-met c =
+    c.loop-head.invariant.long ∙ sym (ap length c.requires.met_zero ∙ length-replicate _ 0)
 
 pub shape_of-queue : goal.shape_of-queue
-shape_of-queue c = let queue_long : length c.args.queue.now ≡ length c.args.counts.now = ap length c.requires.queue_zero
-    ∙ length-replicate _ 0 in
-    c.loop-head.invariant.line.long ∙ c.loop-head.invariant.long ∙ sym queue_long
+shape_of-queue c =
+    c.loop-head.invariant.line.long ∙ c.loop-head.invariant.long ∙ sym (ap length c.requires.queue_zero ∙ length-replicate _ 0)
 
 pub returns : goal.returns
 returns c = let ended : c.loop-head.head ≡ c.loop-head.tail = omega

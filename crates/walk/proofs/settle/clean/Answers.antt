@@ -24,32 +24,21 @@ pub overflow_cast-v : goal.overflow_cast-v
 overflow_cast-v c = omega (arith, c.slice_known-1.given c.loop-at.at)
 
 pub offset_bounds-met-v : goal.offset_bounds-met-v
-offset_bounds-met-v c = let low : get_or c.loop-at.queue c.loop-at.at 0 < length c.loop-at.met = omega (
-  arith,
-  c.loop-at.invariant.2.back c.loop-at.at (omega arith),
-  c.requires.low c.loop-at.at c.loop-at-test.true,
-  c.loop-at.invariant.0,
-) in
-    omega (arith, low)
+offset_bounds-met-v c =
+    omega (arith, c.loop-at.invariant.2.back c.loop-at.at (omega arith), c.requires.low c.loop-at.at c.loop-at-test.true, c.loop-at.invariant.0)
 
 pub bounds-met-v : goal.bounds-met-v
-bounds-met-v c = let low : get_or c.loop-at.queue c.loop-at.at 0 < length c.loop-at.met = omega (
-  arith,
-  c.loop-at.invariant.2.back c.loop-at.at (omega arith),
-  c.requires.low c.loop-at.at c.loop-at-test.true,
-  c.loop-at.invariant.0,
-) in
-    low
+bounds-met-v c =
+    omega (arith, c.loop-at.invariant.2.back c.loop-at.at (omega arith), c.requires.low c.loop-at.at c.loop-at-test.true, c.loop-at.invariant.0)
 
 pub loop-at-preserved : goal.loop-at-preserved
-loop-at-preserved c = let low : get_or c.loop-at.queue c.loop-at.at 0 < length c.loop-at.met = omega (
-  arith,
-  c.loop-at.invariant.2.back c.loop-at.at (omega arith),
-  c.requires.low c.loop-at.at c.loop-at-test.true,
-  c.loop-at.invariant.0,
-) in
-    let here : get_or c.loop-at.queue c.loop-at.at 0 ≡ get_or c.args.queue.now c.loop-at.at 0 =
-    c.loop-at.invariant.2.back c.loop-at.at (omega arith) in (
+loop-at-preserved c =
+    let low : get_or c.loop-at.queue c.loop-at.at 0 < length c.loop-at.met = omega (
+      arith,
+      c.loop-at.invariant.2.back c.loop-at.at (omega arith),
+      c.requires.low c.loop-at.at c.loop-at-test.true,
+      c.loop-at.invariant.0,
+    ) in (
       length-set c.loop-at.met (get_or c.loop-at.queue c.loop-at.at 0) _ ∙ c.loop-at.invariant.0,
       λ v h out.
           at_set c.loop-at.met (get_or c.loop-at.queue c.loop-at.at 0) v _ 0 0 low (λ e. refl)
@@ -57,7 +46,7 @@ loop-at-preserved c = let low : get_or c.loop-at.queue c.loop-at.at 0 < length c
           c.loop-at.invariant.1 v h
           (λ j g b is.
           by_cases (ℕ_discrete j c.loop-at.at) (λ (e : j ≡ c.loop-at.at). ne
-          (sym is ∙ ap (λ (k : ℕ). get_or c.args.queue.now k 0) e ∙ sym here))
+          (sym is ∙ ap (λ (k : ℕ). get_or c.args.queue.now k 0) e ∙ sym (c.loop-at.invariant.2.back c.loop-at.at (omega arith))))
           (λ e. out j (omega arith) b is))),
       clear_more c.loop-at.invariant.2 (omega (arith, c.loop-at.invariant.2.long)),
     )

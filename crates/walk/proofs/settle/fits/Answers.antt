@@ -1,9 +1,7 @@
 -- The goals that the search leaves.
-use Prim.Native.Nat.{◌<◌}
 use mathlib.Core.Path.{sym, ◌∙◌}
 use native.Mathlib.Omega.{arith}
 use borrow.Author.Count.{below_more}
-use lib.ListN.{length, get_or}
 use Rattle.walk.proofs.RoomMarks.{fits_done, fits_not}
 use Rattle.walk.proofs.settle.fits.Goals as goal
 
@@ -14,24 +12,20 @@ pub overflow_cast-v : goal.overflow_cast-v
 overflow_cast-v c = omega (arith, c.type_inv.queue c.loop-at.at)
 
 pub offset_bounds-counts-v : goal.offset_bounds-counts-v
-offset_bounds-counts-v c = let low : get_or c.args.queue.now c.loop-at.at 0 < length c.args.met.now =
-    c.requires.1.low c.loop-at.at c.loop-at-test.true in
-    omega (arith, low)
+offset_bounds-counts-v c =
+    omega (arith, (c.requires.1.low c.loop-at.at c.loop-at-test.true))
 
 pub bounds-counts-v : goal.bounds-counts-v
-bounds-counts-v c = let low : get_or c.args.queue.now c.loop-at.at 0 < length c.args.met.now =
-    c.requires.1.low c.loop-at.at c.loop-at-test.true in
-    omega (arith, low, c.requires.0)
+bounds-counts-v c =
+    omega (arith, (c.requires.1.low c.loop-at.at c.loop-at-test.true), c.requires.0)
 
 pub offset_bounds-met-v : goal.offset_bounds-met-v
-offset_bounds-met-v c = let low : get_or c.args.queue.now c.loop-at.at 0 < length c.args.met.now =
-    c.requires.1.low c.loop-at.at c.loop-at-test.true in
-    omega (arith, low)
+offset_bounds-met-v c =
+    omega (arith, (c.requires.1.low c.loop-at.at c.loop-at-test.true))
 
 pub bounds-met-v : goal.bounds-met-v
-bounds-met-v c = let low : get_or c.args.queue.now c.loop-at.at 0 < length c.args.met.now =
-    c.requires.1.low c.loop-at.at c.loop-at-test.true in
-    low
+bounds-met-v c =
+    (c.requires.1.low c.loop-at.at c.loop-at-test.true)
 
 pub lacks_room-full-requires : goal.lacks_room-full-requires
 lacks_room-full-requires c = c.requires.1.is_met c.loop-at.at c.loop-at-test.true

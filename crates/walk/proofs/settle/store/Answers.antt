@@ -16,14 +16,12 @@ pub overflow_cast-v : goal.overflow_cast-v
 overflow_cast-v c = omega (arith, c.type_inv.queue c.loop-at.at)
 
 pub offset_bounds-met-v : goal.offset_bounds-met-v
-offset_bounds-met-v c = let low : get_or c.args.queue.now c.loop-at.at 0 < length c.args.met.now =
-    c.requires.0.queued.low c.loop-at.at c.loop-at-test.true in
-    omega (arith, low)
+offset_bounds-met-v c =
+    omega (arith, (c.requires.0.queued.low c.loop-at.at c.loop-at-test.true))
 
 pub bounds-met-v : goal.bounds-met-v
-bounds-met-v c = let low : get_or c.args.queue.now c.loop-at.at 0 < length c.args.met.now =
-    c.requires.0.queued.low c.loop-at.at c.loop-at-test.true in
-    low
+bounds-met-v c =
+    (c.requires.0.queued.low c.loop-at.at c.loop-at-test.true)
 
 pub give-requires : goal.give-requires
 give-requires c = let v = get_or c.args.queue.now c.loop-at.at 0 in
