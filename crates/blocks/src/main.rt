@@ -5,19 +5,24 @@
 // first difference.
 #![tactic(auto)]
 
-mod compare;
-mod draw;
-mod due;
+use std::alloc::AllocError;
+
+mod block;
+mod dice;
+mod fault;
 mod grid;
-mod kinds;
+mod index;
+mod kind;
 mod order;
 mod random;
-mod room;
-mod say;
+mod rule;
 mod search;
+mod square;
+mod sums;
 mod tally;
 
-fn main() {
-    random::random_blocks();
-    grid::grid();
+fn main(rt: HostRuntime) -> Result<(), AllocError> {
+    let alloc = rt.alloc();
+    random::random_blocks(&rt, alloc)?;
+    grid::grid(&rt, alloc)
 }

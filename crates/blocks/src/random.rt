@@ -1,165 +1,155 @@
 // Random blocks: sparse, dense, paths and blocks of many pieces, each in a random order and in the order by degree, at a
 // spread of stops, in rows as wide as the block and now and then in narrower ones.
-ghost use Rattle.std.specs.Prelude.{◌≤◌};
+ghost use Rattle.std.specs.Prelude.{◌<◌, ◌≤◌};
 
-use crate::compare::try_stop;
-use crate::draw::{SIDE, below, roll};
-use crate::due::{Due, take_entries};
-use crate::kinds::{make_block, size_of, width_of};
-use crate::order::fill_order;
-use crate::room::get;
-use crate::say;
-use crate::search::{NONE, lower_sums, search_from, sums_of};
+use crate::block::Block;
+use crate::dice::Dice;
+use crate::fault::{Difference, Fault, report};
+use crate::index::Index;
+use crate::kind::Kind;
+use crate::order::Order;
+use crate::rule::Rule;
+use crate::search::Search;
+use crate::square::{SIDE, Square};
+use crate::sums::Sums;
 use crate::tally::Tally;
-use entry::Entry;
+use std::alloc::{AllocError, Global};
 
 // Blocks compared.
 const BLOCKS: usize = 300;
 
-// Each block is tried in both orders, in turn 2 * block and in the next: turns 2 to 601.
-const TURNS: usize = 2 * BLOCKS + 2;
-
-// Takes the hub of rank k, if there is one, into what is due and into the sums.
-fn take_hub(
-    n: usize,
-    w: usize,
-    k: usize,
-    starts: &[u32],
-    places: &[u32],
-    order: &[u32],
-    met: &mut [u32],
-    queue: &mut [u32],
-    sums: &mut [u32],
-    sizes: &mut [u32; SIDE],
-    before: Due,
-) -> Due {
-    if n <= k {
-        return before;
-    }
-    let hub = get(order, k) as usize;
-    search_from(n, starts, places, hub, met, queue);
-    let due = take_entries(n, w, k, met, sums_of(sums, hub), sizes, before);
-    lower_sums(n, met, sums);
-    due
+// A block in one order: its builds, and what is due by the searches from the hubs so far.
+#[derive(Drop)]
+struct Trial<'a> {
+    block: &'a Block,
+    order: Vec<u32>,
+    index: Index,
+    search: Search,
+    sums: Sums,
+    rule: Rule,
 }
 
-// One block in one order, from no hub to all of them: each build is held against the entries and the sums of the hubs so far,
-// which start as 0 and NONE. The work rooms are lent to the build as the search left them.
-fn try_stops(
-    n: usize,
-    w: usize,
-    starts: &[u32],
-    places: &[u32],
-    order: &[u32],
-    labels: &mut [Entry],
-    counts: &mut [u32],
-    met: &mut [u32],
-    queue: &mut [u32],
-    sums: &mut [u32],
-    sizes: &mut [u32; SIDE],
-    mut tally: Tally,
-) -> Tally
-    requires { n ≤ 200 }
+impl<'a> Trial<'a> {
+    fn new(alloc: Global, block: &'a Block, w: usize, order: Vec<u32>) -> Result<Self, AllocError>
+        requires { w ≤ 256 }
+    {
+        let n = block.n as usize;
+        Ok(Self {
+            block,
+            order,
+            index: Index::new(alloc, block, w)?,
+            search: Search::new(alloc, n)?,
+            sums: Sums::new(alloc, n)?,
+            rule: Rule::new(alloc, n, w)?,
+        })
+    }
+
+    // From no hub to all of them.
+    fn run(&mut self, tally: &mut Tally) -> Result<(), Fault> {
+        for k in 0..=self.order.len() {
+            if is_stop(self.order.len(), k) {
+                self.try_stop(k, tally)?;
+            }
+            self.take_hub(k)?;
+        }
+        Ok(())
+    }
+
+    // A build up to stop k: what it gives, then every pair unless it was refused.
+    fn try_stop(&mut self, k: usize, tally: &mut Tally) -> Result<(), Difference> {
+        let n = self.order.len();
+        let built = self.index.build(self.block, &self.order, k);
+        let due = self.rule.due();
+        if built != due {
+            return Err(Difference::Build { n, k, built, due });
+        }
+        match built {
+            Ok(entries) => {
+                tally.built(entries);
+                self.compare(tally)?;
+            }
+            Err(_) => tally.refused(),
+        }
+        Ok(())
+    }
+
+    // Every pair of one build.
+    fn compare(&self, tally: &mut Tally) -> Result<(), Difference> {
+        for (s, sums) in self.sums.rows().iter().enumerate() {
+            self.index.compare_row(s, sums)?;
+            tally.compared(sums.len());
+        }
+        Ok(())
+    }
+
+    // Takes the hub of rank k, if there is one, into what is due and into the sums.
+    fn take_hub(&mut self, k: usize) -> Result<(), AllocError> {
+        if let Some(hub) = self.order.get(k).copied() {
+            self.search.run(self.block, hub)?;
+            let joins = &self.search.joins;
+            if let Some(sums) = self.sums.rows().get(hub as usize) {
+                self.rule.take_hub(k, joins, sums);
+            }
+            self.sums.take_hub(joins);
+        }
+        Ok(())
+    }
+}
+
+// Whether a stop is tried.
+fn is_stop(n: usize, k: usize) -> bool {
+    [0, 1, 2, n / 2, n.saturating_sub(1), n].contains(&k)
+}
+
+// Frames of a block: every size once, then small ones.
+fn size_of(number: usize, dice: &mut Dice) -> usize
+    requires { 0 < number }
+    ensures { (0 < result) × (result ≤ 200) }
 {
-    let mut due = Due::Entries(0);
-    let mut k = 0;
-    while k <= n {
-        tally = try_stop(
-            n, w, k, starts, places, order, labels, counts, met, queue, sums, due, tally,
-        );
-        due = take_hub(n, w, k, starts, places, order, met, queue, sums, sizes, due);
-        k += 1;
-    }
-    tally
+    let small = 1 + dice.below(40);
+    if number <= SIDE { number } else { small }
 }
 
-// Tries a block in one order, in rooms cut to the block's lengths.
-fn try_order(
-    is_random: bool,
-    seed: u64,
-    n: usize,
-    w: usize,
-    starts: &[u32],
-    places: &[u32],
-    order: &mut [u32],
-    before: Tally,
-) -> Tally
-    requires n_bound { n ≤ 200 }
-    requires w_bound { w ≤ 200 }
+// Most entries of a row: n for three blocks of four, else a few.
+fn width_of(number: usize, n: usize, dice: &mut Dice) -> usize
+    ensures { result ≤ n }
 {
-    let mut labels: [Entry; SIDE * SIDE] = [0; SIDE * SIDE];
-    let mut counts = [0u32; SIDE];
-    let mut met = [0u32; SIDE];
-    let mut queue = [0u32; SIDE];
-    let mut sums = [NONE; SIDE * SIDE];
-    let mut sizes = [0u32; SIDE];
-    let size = n * w;
-    fill_order(is_random, n, seed, starts, places, order);
-    try_stops(
-        n,
-        w,
-        starts,
-        places,
-        order,
-        &mut labels[..size],
-        &mut counts[..n],
-        &mut met[..n],
-        &mut queue[..n],
-        &mut sums,
-        &mut sizes,
-        before,
-    )
+    let few = 1 + dice.below(16);
+    if number % 4 == 3 { few.min(n) } else { n }
 }
 
-// Draws one block and tries it in one order.
-fn run_block(block: usize, is_random: bool, before: Tally) -> Tally {
-    let mut marks = [0u32; SIDE * SIDE];
-    let mut starts = [0u32; SIDE + 1];
-    let mut places = [0u32; SIDE * SIDE];
-    let mut order = [0u32; SIDE];
-    let one = roll(block as u64);
-    let two = roll(one);
-    let three = roll(two);
-    let n = size_of(block, one);
-    let w = width_of(block, n, two);
-    let ends = n + 1;
-    let kind = below(three, 6);
-    let place_count = make_block(n, kind, three, &mut marks, &mut starts, &mut places);
-    if SIDE * SIDE < place_count {
-        return before;
+// Draws one block, and tries it in both orders.
+fn try_block(alloc: Global, number: usize, tally: &mut Tally) -> Result<(), Fault>
+    requires { 0 < number }
+{
+    let mut dice = Dice::new(number as u64);
+    let n = size_of(number, &mut dice);
+    let w = width_of(number, n, &mut dice);
+    let kind = Kind::draw(&mut dice);
+    let seed = dice.seed();
+    let square = Square::draw(n, kind, &mut dice);
+    let block = Block::lay(alloc, n as u32, |s, t| {
+        square.is_linked(s as usize, t as usize)
+    })?;
+    for order in Order::ALL {
+        let hubs = order.of(alloc, &block, seed / 2)?;
+        Trial::new(alloc, &block, w, hubs)?.run(tally)?;
     }
-    try_order(
-        is_random,
-        three / 2,
-        n,
-        w,
-        &starts[..ends],
-        &places[..place_count],
-        &mut order[..n],
-        before,
-    )
+    Ok(())
 }
 
-// The counts, and `all equal` unless a difference was printed.
-fn report(tally: Tally) {
-    if !tally.is_equal {
-        return;
+fn try_blocks(alloc: Global, tally: &mut Tally) -> Result<(), Fault> {
+    for number in 1..=BLOCKS {
+        try_block(alloc, number, tally)?;
     }
-    say::field(b"blocks ", BLOCKS);
-    say::field(b" builds ", tally.builds);
-    say::field(b" refused ", tally.refusals);
-    say::field(b" entries ", tally.entries);
-    say::field(b" pairs ", tally.pairs);
-    say::text(b"\nall equal\n");
+    Ok(())
 }
 
-pub fn random_blocks() {
-    let mut tally = Tally::new();
-    let mut turn = 2;
-    while turn < TURNS {
-        let is_random = turn % 2 == 0;
-        tally = run_block(turn / 2, is_random, tally);
-        turn += 1;
+// The counts and `all equal`, or the first difference.
+pub fn random_blocks(rt: &impl Print, alloc: Global) -> Result<(), AllocError> {
+    let mut tally = Tally::default();
+    if report(rt, try_blocks(alloc, &mut tally))? {
+        let _ = println!(rt; "blocks {BLOCKS} {tally}\nall equal");
     }
-    report(tally);
+    Ok(())
 }

@@ -1,88 +1,53 @@
-// Plain breadth-first counts, and for each pair the least sum over the hubs searched so far.
-use crate::draw::place_of;
-use crate::room::{behind, fill, get, push, put};
+// Plain breadth-first counts.
+use crate::block::Block;
+use std::alloc::{AllocError, Global};
 
-// What stands for no chain: above every count of joins and every sum of two.
-pub const NONE: u32 = 65536;
+// The joins from one frame to each, None where there is no chain.
+#[derive(Drop)]
+pub struct Search {
+    pub joins: Vec<Option<usize>>,
+    queue: Vec<(u32, usize)>,
+}
 
-// Joins from the hub to every frame below n, NONE where there is no chain.
-pub fn search_from(
-    n: usize,
-    starts: &[u32],
-    places: &[u32],
-    hub: usize,
-    joins: &mut [u32],
-    queue: &mut [u32],
-) {
-    fill(joins, NONE);
-    let mut head = 0;
-    let mut tail = meet(hub, 0, joins, queue, 0);
-    while head < n {
-        if tail <= head {
-            return;
+impl Search {
+    // A search among n frames that has not begun.
+    pub fn new(alloc: Global, n: usize) -> Result<Self, AllocError> {
+        Ok(Self {
+            joins: vec![in alloc; None; n]?,
+            queue: Vec::with_capacity(alloc, n)?,
+        })
+    }
+
+    // Searches a block from one frame.
+    pub fn run(&mut self, block: &Block, from: u32) -> Result<(), AllocError> {
+        self.joins.fill(None);
+        self.queue.clear();
+        self.meet(from, 0)?;
+        for head in 0..self.joins.len() {
+            let Some((frame, joins)) = self.queue.get(head).copied() else {
+                return Ok(());
+            };
+            self.reach(block.list(frame as usize), joins.saturating_add(1))?;
         }
-        let u = get(queue, head) as usize;
-        tail = reach(starts, places, u, joins, queue, tail);
-        head += 1;
+        Ok(())
     }
-}
 
-// Meets a frame: unless it was met before, it gets these joins and goes to the queue's end. Where the queue then ends.
-fn meet(v: usize, searched: u32, joins: &mut [u32], queue: &mut [u32], end: usize) -> usize {
-    if get(joins, v) != NONE {
-        return end;
+    // Meets the frames of a list.
+    fn reach(&mut self, list: &[u32], joins: usize) -> Result<(), AllocError> {
+        for frame in list {
+            self.meet(*frame, joins)?;
+        }
+        Ok(())
     }
-    put(joins, v, searched);
-    push(queue, end, v)
-}
 
-// Meets the frames of u's list at one join more than u; where the queue then ends.
-fn reach(
-    starts: &[u32],
-    places: &[u32],
-    u: usize,
-    joins: &mut [u32],
-    queue: &mut [u32],
-    tail: usize,
-) -> usize {
-    let next = get(joins, u) % NONE + 1;
-    let mut end = tail;
-    let mut at = get(starts, u) as usize;
-    let last = get(starts, u % 65536 + 1) as usize;
-    while at < last {
-        end = meet(get(places, at) as usize, next, joins, queue, end);
-        at += 1;
+    // Meets a frame: unless it was met before, it gets these joins and goes to the queue's end.
+    fn meet(&mut self, frame: u32, joins: usize) -> Result<(), AllocError> {
+        if let Some(met) = self.joins.get_mut(frame as usize)
+            && met.is_none()
+        {
+            *met = Some(joins);
+            self.queue.push((frame, joins))?;
+        }
+        Ok(())
     }
-    end
-}
-
-// Takes one more hub into the sums: for each pair the joins from the first frame to the hub and on to the second.
-pub fn lower_sums(n: usize, joins: &[u32], sums: &mut [u32]) {
-    let mut s = 0;
-    while s < n {
-        lower_row(n, s, joins, sums);
-        s += 1;
-    }
-}
-
-// Stores a sum where a greater one stands.
-fn lower(sums: &mut [u32], at: usize, sum: usize) {
-    if sum < get(sums, at) as usize {
-        put(sums, at, sum as u32);
-    }
-}
-
-fn lower_row(n: usize, s: usize, joins: &[u32], sums: &mut [u32]) {
-    let there = get(joins, s) as usize;
-    let mut t = 0;
-    while t < n {
-        let back = get(joins, t) as usize;
-        lower(sums, place_of(s, t), there + back);
-        t += 1;
-    }
-}
-
-// The least sums of frame s with each frame, NONE where no hub searched so far reaches both.
-pub fn sums_of(sums: &[u32], s: usize) -> &[u32] {
-    behind(sums, place_of(s, 0))
 }

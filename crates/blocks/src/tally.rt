@@ -1,49 +1,43 @@
-// What was compared so far, and whether all of it was equal.
+// What was compared so far.
+use std::fmt;
 
-// Above every count of a run.
-pub const MANY: usize = 1000000000;
-
-#[derive(Clone, Copy)]
+#[derive(Clone, Copy, Debug, Default)]
 pub struct Tally {
-    pub builds: usize,
-    pub refusals: usize,
-    pub entries: usize,
-    pub pairs: usize,
-    pub is_equal: bool,
+    builds: usize,
+    refused: usize,
+    entries: usize,
+    pairs: usize,
 }
 
 impl Tally {
-    pub fn new() -> Self {
-        Self {
-            builds: 0,
-            refusals: 0,
-            entries: 0,
-            pairs: 0,
-            is_equal: true,
-        }
-    }
-
     // One more build that was not refused, and its entries.
-    pub fn built(mut self, entries: usize) -> Self {
-        self.builds = self.builds % MANY + 1;
-        self.entries = self.entries % MANY + entries % MANY;
-        self
-    }
-
-    // One more build that was refused for want of room.
-    pub fn refused(mut self) -> Self {
-        self.refusals = self.refusals % MANY + 1;
-        self
+    pub fn built(&mut self, entries: usize) {
+        self.builds = self.builds.saturating_add(1);
+        self.entries = self.entries.saturating_add(entries);
     }
 
     // So many more pairs.
-    pub fn compared(mut self, pairs: usize) -> Self {
-        self.pairs = self.pairs % MANY + pairs % MANY;
-        self
+    pub fn compared(&mut self, pairs: usize) {
+        self.pairs = self.pairs.saturating_add(pairs);
     }
 
-    pub fn unequal(mut self) -> Self {
-        self.is_equal = false;
-        self
+    // One more build that was refused for want of room.
+    pub fn refused(&mut self) {
+        self.refused = self.refused.saturating_add(1);
+    }
+}
+
+impl fmt::Display for Tally {
+    fn fmt<W: fmt::Write>(&self, f: &mut fmt::Formatter<W>) -> fmt::Result {
+        let Tally {
+            builds,
+            refused,
+            entries,
+            pairs,
+        } = *self;
+        write!(
+            f,
+            "builds {builds} refused {refused} entries {entries} pairs {pairs}"
+        )
     }
 }

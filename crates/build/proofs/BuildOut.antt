@@ -1,26 +1,17 @@
 -- The build's outcome: what is left when a test is refused, when a walk is refused, and when all walks are made.
-use Prim.Native.Nat.{ℕ, ◌*◌, ◌<◌}
+use Rattle.refusal.specs.Tests.{Verdict, fine}
+use Rattle.std.specs.Prelude.{Ok, Err}
+use Prim.Native.Nat.{ℕ, ◌*◌}
 use mathlib.Core.Path.{◌≡◌, refl, sym, ap, ◌∙◌}
-use mathlib.Core.Bool.{Bool, cond}
 use mathlib.Core.List.{List}
-use native.Mathlib.Omega.{arith}
 use lib.ListN.{length, get_or, replicate, length-replicate}
 use Rattle.basics.specs.Places.{sum}
-use Rattle.basics.proofs.Laws.{cond_ge}
-use Rattle.refusal.specs.Numbers.{SIZE, LENGTH, STARTS, LINKS, ORDER, ROOM, FAR}
 use Rattle.refusal.specs.declared.Refusal.{Refusal}
-use Rattle.refusal.specs.declared.Verdict.{Verdict}
-use Rattle.refusal.specs.declared.Verdict.TheVariants.{Fine, Refused}
-use Rattle.refusal.proofs.Laws.{Named, Numbered, test_numbered, then_numbered, gives_apart, refuses_apart, gives_refuses}
-use Rattle.theory.specs.Rows.{Row}
+use Rattle.refusal.proofs.Laws.{Named, named, gives_apart, refuses_apart, gives_refuses}
 use Rattle.theory.specs.Plain.{row_by}
-use Rattle.links.specs.Links.{starts_test, lists_test}
-use Rattle.links.specs.Order.{order_test}
 use Rattle.rows.specs.Inner.{Laid}
-use Rattle.build.specs.Build.{full_at, stop_at, walks_test, build_tests, BuildOutcome, build_outcome, after_walks, after_tests, build_of, built_told}
+use Rattle.build.specs.Build.{stop_at, walks_test, build_tests, BuildOutcome, build_outcome, after_walks, after_tests, build_of, built_told, Built}
 use Rattle.build.specs.Inner.{MakeIn, RunIn, RunOut}
-use Rattle.build.specs.declared.Built.{Built}
-use Rattle.build.specs.declared.Built.TheVariants.{Entries, Refused as NotBuilt}
 use Rattle.build.proofs.RunStops.{at_end}
 use Rattle.build.proofs.BuildTests.{tests_fine}
 
@@ -53,29 +44,29 @@ module _ {n' n w k : ℕ} {S L O : List ℕ} {verdict : Verdict} {labels counts 
   o = rw is at out
 
   -- a walk refused: every room 0
-  pub stopped_out : {r : Refusal} {labels' counts' : List ℕ} → verdict ≡ Refused r → labels' ≡ replicate (n * w) 0
+  pub stopped_out : {r : Refusal} {labels' counts' : List ℕ} → verdict ≡ Err r → labels' ≡ replicate (n * w) 0
       → counts' ≡ replicate n 0
-      → build_outcome (NotBuilt r) labels' counts' met queue ≡ after_walks n w (row_by n S L O k) (walks_test n w k S L O)
+      → build_outcome (Err r) labels' counts' met queue ≡ after_walks n w (row_by n S L O k) (walks_test n w k S L O)
   unfolding after_walks
   stopped_out e l c =
       same_outcome refl l c o.met_zero o.queue_zero
       ∙ ap (after_walks n w (row_by n S L O k)) (sym e ∙ o.answer)
 
   -- all walks made: the rule's rows at k, and the sum of the counts
-  pub made_out : {entries : ℕ} → verdict ≡ Fine → entries ≡ sum counts
-      → build_outcome (Entries entries) labels counts met queue ≡ after_walks n w (row_by n S L O k) (walks_test n w k S L O)
+  pub made_out : {entries : ℕ} → verdict ≡ fine → entries ≡ sum counts
+      → build_outcome (Ok entries) labels counts met queue ≡ after_walks n w (row_by n S L O k) (walks_test n w k S L O)
   unfolding after_walks
   made_out e all =
       let at : stop_at n w k S L O ≡ k = at_end n w S L O k (sym o.answer ∙ e) in
       let laid : Laid n w (row_by n S L O k) labels counts = rw at at o.laid in
-      same_outcome (ap Entries (all ∙ ap sum laid.numbers)) laid.rows laid.numbers o.met_zero o.queue_zero
+      same_outcome (ap Ok (all ∙ ap sum laid.numbers)) laid.rows laid.numbers o.met_zero o.queue_zero
       ∙ ap (after_walks n w (row_by n S L O k)) (sym e ∙ o.answer)
 
 -- ---- the whole
 
 module _ (n w k : ℕ) (S L O labels counts met queue : List ℕ) where
   lent : BuildOutcome
-  lent = build_outcome (Entries 0) labels counts met queue
+  lent = build_outcome (Ok 0) labels counts met queue
 
   made : BuildOutcome
   made = after_walks n w (row_by n S L O k) (walks_test n w k S L O)
@@ -88,12 +79,12 @@ module _ (n w k : ℕ) (S L O labels counts met queue : List ℕ) where
 
   -- a test refused: every room as lent
   pub refused_out : (r : Refusal)
-      → build_tests n w k S L O (length labels) (length counts) (length met) (length queue) ≡ Refused r
-      → build_outcome (NotBuilt r) labels counts met queue ≡ build_of n w k S L O labels counts met queue
+      → build_tests n w k S L O (length labels) (length counts) (length met) (length queue) ≡ Err r
+      → build_outcome (Err r) labels counts met queue ≡ build_of n w k S L O labels counts met queue
   unfolding after_tests lent
   refused_out r e = tests_decide e
 
-  module _ (e : build_tests n w k S L O (length labels) (length counts) (length met) (length queue) ≡ Fine) where
+  module _ (e : build_tests n w k S L O (length labels) (length counts) (length met) (length queue) ≡ fine) where
     passed : MakeIn n w k S L O labels counts met queue
     passed = tests_fine n w k S L O labels counts met queue e
 
@@ -112,51 +103,14 @@ module _ (n w k : ℕ) (S L O labels counts met queue : List ℕ) where
 
 -- ---- the paper's numbers
 
--- a number of entries is no refusal
-pub not_made {ℓ} : {C : Type ℓ} {e : ℕ} {r : Refusal} → Entries e ≡ NotBuilt r → C
-not_made q = let z : ◌≡◌ {A = ℕ} 0 1 = cc in absurd (omega arith)
-
-refused_named : (r : Refusal) → 0 < r.number → Named NotBuilt (NotBuilt r)
-refused_named r h s e = let same : r.number ≡ s.number = cc in omega arith
-
-walks_named : (n w : ℕ) (R : ℕ → Row) (v : Verdict) → Numbered v → Named NotBuilt (after_walks n w R v).answer
-unfolding after_walks
-walks_named n w R Fine h = λ r. not_made
-walks_named n w R (Refused s) h = refused_named s (h s refl)
-
-tests_named : (lent : BuildOutcome) (v : Verdict) (made : BuildOutcome) → Numbered v → Named NotBuilt made.answer → Named NotBuilt (after_tests lent v made).answer
-unfolding after_tests
-tests_named lent Fine made h g = g
-tests_named lent (Refused s) made h g = refused_named s (h s refl)
-
-walks_numbered : (n w k : ℕ) (S L O : List ℕ) → Numbered (walks_test n w k S L O)
-unfolding walks_test
-walks_numbered n w k S L O =
-    let full : Bool = full_at n w S L O (stop_at n w k S L O) in
-    test_numbered _ (cond full ROOM FAR) _ (cond_ge full {x = ROOM} {y = FAR} 1 (omega arith) (omega arith))
-
-tests_numbered : (n w k : ℕ) (S L O : List ℕ) (labels counts met queue : ℕ) → Numbered (build_tests n w k S L O labels counts met queue)
-unfolding build_tests starts_test lists_test order_test
-tests_numbered n w k S L O labels counts met queue =
-    then_numbered _ _ (test_numbered _ SIZE 0 (omega arith))
-    (then_numbered _ _ (test_numbered _ LENGTH 0 (omega arith))
-    (then_numbered _ _ (test_numbered _ STARTS 0 (omega arith))
-    (then_numbered _ _ (test_numbered _ LINKS _ (omega arith)) (test_numbered _ ORDER _ (omega arith)))))
-
--- every answer of the build is so
-pub build_named : (n w k : ℕ) (S L O labels counts met queue : List ℕ) → Named NotBuilt (build_of n w k S L O labels counts met queue).answer
-unfolding build_of
-build_named n w k S L O labels counts met queue =
-    let R : ℕ → Row = row_by n S L O k in
-    let walked : Verdict = walks_test n w k S L O in
-    tests_named (build_outcome (Entries 0) labels counts met queue) _ (after_walks n w R walked)
-    (tests_numbered n w k S L O (length labels) (length counts) (length met) (length queue))
-    (walks_named n w R walked (walks_numbered n w k S L O))
+-- every refusal of the build has a number
+pub build_named : (n w k : ℕ) (S L O labels counts met queue : List ℕ) → Named Err (build_of n w k S L O labels counts met queue).answer
+build_named n w k S L O labels counts met queue = named Err _
 
 -- answers with the same numbers are the same
-pub built_apart : (a b : Built) → Named NotBuilt a → Named NotBuilt b → built_told a ≡ built_told b → a ≡ b
+pub built_apart : (a b : Built) → built_told a ≡ built_told b → a ≡ b
 unfolding built_told
-built_apart (Entries e) (Entries f) p q t = ap (λ (vs : List ℕ). Entries (get_or vs 0 0)) (gives_apart t)
-built_apart (Entries e) (NotBuilt s) p q t = gives_refuses 1 (q s refl) t
-built_apart (NotBuilt r) (Entries f) p q t = gives_refuses 1 (p r refl) (sym t)
-built_apart (NotBuilt r) (NotBuilt s) p q t = ap NotBuilt (refuses_apart 1 t)
+built_apart (Ok e) (Ok f) t = ap (λ (vs : List ℕ). Ok (get_or vs 0 0)) (gives_apart t)
+built_apart (Ok e) (Err s) t = gives_refuses s 1 t
+built_apart (Err r) (Ok f) t = gives_refuses r 1 (sym t)
+built_apart (Err r) (Err s) t = ap Err (refuses_apart 1 t)

@@ -1,7 +1,8 @@
 -- The build's tests before any walk: which refusal each gives, and what they show when all are passed.
+use Rattle.std.specs.Prelude.{Err}
 use Prim.Native.Nat.{ℕ, ◌+◌, ◌*◌, ◌≤◌}
 use mathlib.Core.Path.{◌≡◌, sym, ap, ◌∙◌}
-use mathlib.Core.Bool.{true, false, ◌&&◌}
+use mathlib.Core.Bool.{true, ◌&&◌}
 use mathlib.Core.List.{List}
 use borrow.Author.Tests.{leb-true, eqb-true}
 use lib.ListN.{length}
@@ -10,11 +11,9 @@ use Rattle.basics.proofs.Laws.{both_true}
 use Rattle.refusal.specs.Numbers.{SIZE, LENGTH}
 use Rattle.refusal.specs.Sizes.{sizes_fit, places_fit}
 use Rattle.refusal.specs.Inner.{Sizes}
-use Rattle.refusal.specs.Tests.{test, ◌then◌, refusal}
+use Rattle.refusal.specs.Tests.{test, ◌then◌, Verdict, fine}
 use Rattle.refusal.specs.declared.Refusal.{Refusal}
-use Rattle.refusal.specs.declared.Verdict.{Verdict}
-use Rattle.refusal.specs.declared.Verdict.TheVariants.{Fine, Refused}
-use Rattle.refusal.proofs.Laws.{test_fine, test_refused, test_held, after_fine, after_refused, then_fine, then_assoc}
+use Rattle.refusal.proofs.Laws.{test_fine, test_held, after_fine, after_refused, then_fine, then_assoc}
 use Rattle.refusal.proofs.SizeLaws.{sizes_held, places_held}
 use Rattle.links.specs.Links.{starts_test, lists_test, check_links}
 use Rattle.links.specs.Order.{order_test, check_order}
@@ -74,16 +73,7 @@ links_fit : {n w k order labels counts met queue : ℕ} {S L : List ℕ} → InR
 links_fit s l = record { one = s.fit.some_frames; frames = s.fit.frames; places = s.most; long = l.starts_long }
 
 module _ (n w k : ℕ) (S L O : List ℕ) (labels counts met queue : ℕ) where
-  pub tests_size : build_sizes n w k (length L) ≡ false → build_tests n w k S L O labels counts met queue ≡ Refused (refusal SIZE 0)
-  unfolding build_tests
-  tests_size e = after_refused _ (test_refused SIZE 0 e)
-
   module _ (sized : build_sizes n w k (length L) ≡ true) where
-    pub tests_length : build_rooms n w (length S) (length O) labels counts met queue ≡ false
-        → build_tests n w k S L O labels counts met queue ≡ Refused (refusal LENGTH 0)
-    unfolding build_tests
-    tests_length e = after_fine _ (test_fine SIZE 0 sized) ∙ after_refused _ (test_refused LENGTH 0 e)
-
     module _ (long : build_rooms n w (length S) (length O) labels counts met queue ≡ true) where
       sizes : InRange n w k (length L)
       sizes = sizes_hold n w k (length L) sized
@@ -102,10 +92,10 @@ module _ (n w k : ℕ) (S L O : List ℕ) (labels counts met queue : ℕ) where
           ∙ sym (then_assoc (starts_test n S L) (lists_test n S L) (order_test n O))
           ∙ ap (λ (v : Verdict). v then order_test n O) (sym links_are)
 
-      pub tests_links : (r : Refusal) → check_links n S L ≡ Refused r → build_tests n w k S L O labels counts met queue ≡ Refused r
+      pub tests_links : (r : Refusal) → check_links n S L ≡ Err r → build_tests n w k S L O labels counts met queue ≡ Err r
       tests_links r e = rest ∙ after_refused _ e
 
-      pub tests_order : check_links n S L ≡ Fine → build_tests n w k S L O labels counts met queue ≡ check_order n O
+      pub tests_order : check_links n S L ≡ fine → build_tests n w k S L O labels counts met queue ≡ check_order n O
       tests_order e =
           rest
           ∙ after_fine _ e
@@ -113,7 +103,7 @@ module _ (n w k : ℕ) (S L O : List ℕ) (labels counts met queue : ℕ) where
 
 -- all passed
 pub tests_fine : (n w k : ℕ) (S L O labels counts met queue : List ℕ)
-    → build_tests n w k S L O (length labels) (length counts) (length met) (length queue) ≡ Fine
+    → build_tests n w k S L O (length labels) (length counts) (length met) (length queue) ≡ fine
     → MakeIn n w k S L O labels counts met queue
 unfolding build_tests
 tests_fine n w k S L O labels counts met queue e =

@@ -1,5 +1,7 @@
 -- The state of a run between two walks: rooms that hold the rule's rows at the rank reached, work rooms 0, and no rank
 -- before it that stops. One walk takes it to the next rank, or the run ends there.
+use Rattle.refusal.specs.Tests.{Verdict, fine}
+use Rattle.std.specs.Prelude.{Ok, Err}
 use Prim.Native.Nat.{ℕ, ◌+◌, ◌*◌, ◌≤◌, ◌<◌}
 use mathlib.Core.Path.{◌≡◌, refl, sym, ap, ◌∙◌}
 use mathlib.Core.Bool.{true, false, not}
@@ -10,25 +12,22 @@ use borrow.Author.Count.{below_more}
 use lib.ListN.{length, replicate, length-replicate}
 use Rattle.basics.proofs.Laws.{bcase, neither, either_left, either_right, cond_true, cond_false}
 use Rattle.refusal.specs.declared.Refusal.{Refusal}
-use Rattle.refusal.specs.declared.Verdict.{Verdict}
-use Rattle.refusal.specs.declared.Verdict.TheVariants.{Fine, Refused}
 use Rattle.refusal.proofs.Laws.{fine_not_refused}
 use Rattle.theory.specs.Links.{hub_of}
 use Rattle.theory.specs.Rows.{Row}
 use Rattle.theory.specs.Plain.{row_by}
 use Rattle.build.specs.Build.{full_at, far_at, stops, stop_at, walks_test}
-use Rattle.build.specs.Inner.{walk_verdict, RunIn, RunOut}
+use Rattle.build.specs.Inner.{refusal_of, walk_verdict, RunIn, RunOut}
 use Rattle.rows.specs.Laid.{labels_of, counts_of}
 use Rattle.rows.specs.Inner.{Laid}
 use Rattle.walk.specs.Inner.{WalkIn, WalkOut}
-use Rattle.walk.specs.Walk.{decided, walked_rows, if_made}
-use Rattle.walk.specs.declared.Walked.{Walked}
-use Rattle.walk.specs.declared.Walked.TheVariants.{Made, Full, Far}
+use Rattle.walk.specs.Walk.{Walked, decided, walked_rows, if_made}
+use Rattle.walk.specs.declared.Unmade.TheVariants.{Full, Far}
 use Rattle.rows.proofs.LaidLaws.{laid_long, laid_ext, length_labels}
 use Rattle.build.proofs.RunLaws.{Ruled, rows_back, laid_back, sound_back, rows_next, walk_is}
 use Rattle.build.proofs.RunStops.{laid_empty, fit_upto, stop_here, run_full, run_far, run_end, at_end}
 
-made_is : {walked : Walked} → walked ≡ Made → (x y : Row) → if_made walked x y ≡ x
+made_is : {walked : Walked} → walked ≡ Ok tt → (x y : Row) → if_made walked x y ≡ x
 unfolding if_made
 made_is e x y = ap (λ (z : Walked). if_made z x y) e
 
@@ -53,10 +52,10 @@ run_begins {n} {w} {k} {S} {L} {O} i =
     }
 
 pub run_ends : {n w k : ℕ} {S L O labels counts met queue noted : List ℕ} {r : ℕ} → k ≤ r
-    → Running n w k S L O r labels counts met queue noted → RunOut n w k S L O Fine labels counts met queue
+    → Running n w k S L O r labels counts met queue noted → RunOut n w k S L O fine labels counts met queue
 run_ends {n} {w} {k} {S} {L} {O} {r = r} h s =
     let none : (j : ℕ) → j < k → stops n w S L O j ≡ false = λ j l. s.none j (omega arith) in
-    let fine : walks_test n w k S L O ≡ Fine = run_end n w S L O k none in
+    let fine : walks_test n w k S L O ≡ fine = run_end n w S L O k none in
     let at : r ≡ stop_at n w k S L O = omega (arith, at_end n w S L O k fine, s.upto) in
     record {
       answer = sym fine;
@@ -128,9 +127,9 @@ module _ {n w k : ℕ} {S L O labels₀ counts₀ met₀ queue₀ noted₀ label
     which = out.answer ∙ walk_is ruled below
 
     -- it is full, else far, else made
-    by_walk {ℓ} : {C : Type ℓ} → (full_at n w S L O r ≡ true → walked ≡ Full → C)
-        → (full_at n w S L O r ≡ false → far_at n S L O r ≡ true → walked ≡ Far → C)
-        → (full_at n w S L O r ≡ false → far_at n S L O r ≡ false → walked ≡ Made → C) → C
+    by_walk {ℓ} : {C : Type ℓ} → (full_at n w S L O r ≡ true → walked ≡ Err Full → C)
+        → (full_at n w S L O r ≡ false → far_at n S L O r ≡ true → walked ≡ Err Far → C)
+        → (full_at n w S L O r ≡ false → far_at n S L O r ≡ false → walked ≡ Ok tt → C) → C
     by_walk full distant made =
         bcase (full_at n w S L O r)
         (λ e. full e (which ∙ cond_false _ _ (ap not e)))
@@ -140,7 +139,7 @@ module _ {n w k : ℕ} {S L O labels₀ counts₀ met₀ queue₀ noted₀ label
         (λ f. made e f (which ∙ cond_true _ _ (ap not e) ∙ cond_true _ _ (ap not f))))
 
     -- a walk that is made takes the run to the next rank
-    next : full_at n w S L O r ≡ false → far_at n S L O r ≡ false → walked ≡ Made
+    next : full_at n w S L O r ≡ false → far_at n S L O r ≡ false → walked ≡ Ok tt
         → Running n w k S L O (r + 1) labels' counts' met' queue' noted'
     next e f made =
         let after : (v : ℕ) → v < n
@@ -173,7 +172,7 @@ module _ {n w k : ℕ} {S L O labels₀ counts₀ met₀ queue₀ noted₀ label
           queue_zero = out.queue_zero;
         }
 
-    pub run_next : walk_verdict walked r ≡ Fine → Running n w k S L O (r + 1) labels' counts' met' queue' noted'
+    pub run_next : walk_verdict walked r ≡ fine → Running n w k S L O (r + 1) labels' counts' met' queue' noted'
     unfolding walk_verdict
     run_next fine =
         by_walk
@@ -181,9 +180,9 @@ module _ {n w k : ℕ} {S L O labels₀ counts₀ met₀ queue₀ noted₀ label
         (λ e f is. fine_not_refused (sym fine ∙ ap (λ (z : Walked). walk_verdict z r) is))
         next
 
-    pub run_stops : {verdict : Verdict} {refused : Refusal} → verdict ≡ walk_verdict walked r → verdict ≡ Refused refused
+    pub run_stops : {verdict : Verdict} {refused : Refusal} → verdict ≡ walk_verdict walked r → verdict ≡ Err refused
         → RunOut n w k S L O verdict labels' counts' met' queue'
-    unfolding walk_verdict if_made
+    unfolding walk_verdict if_made refusal_of
     run_stops said not-fine =
         by_walk
         (λ e is.

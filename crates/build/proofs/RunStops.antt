@@ -1,4 +1,5 @@
 -- Where a run of walks stops: at the first rank at which the rule's rows are over W or over 4,095 joins, or at k.
+use Rattle.std.specs.Prelude.{Err}
 use Prim.Native.Nat.{ℕ, zero, suc, ◌*◌, ◌/◌, ◌%◌, ◌≤◌, ◌<◌}
 use mathlib.Core.Path.{◌≡◌, refl, sym, ap, ◌∙◌}
 use mathlib.Core.Bool.{true, false}
@@ -9,8 +10,7 @@ use lib.ListN.{length, get_or, replicate, length-replicate, get_or-replicate}
 use lib.Dec.{ltb}
 use Rattle.basics.proofs.Laws.{is_table, first_is, end_none, none_end, some_not, either_left, either_right, either_false}
 use Rattle.refusal.specs.Numbers.{ROOM, FAR}
-use Rattle.refusal.specs.Tests.{refusal}
-use Rattle.refusal.specs.declared.Verdict.TheVariants.{Fine, Refused}
+use Rattle.refusal.specs.Tests.{refusal, fine}
 use Rattle.refusal.proofs.Laws.{test_fine, test_refused, test_held}
 use Rattle.theory.specs.Rows.{Row}
 use Rattle.theory.specs.Plain.{row_by}
@@ -55,23 +55,23 @@ module _ (n w : ℕ) (S L O : List ℕ) where
     stop_here e = first_is (stops n w S L O) 0 k r (omega arith) (omega arith) e (λ j l h. none j h)
 
     -- ROOM at the rank
-    pub run_full : full_at n w S L O r ≡ true → walks_test n w k S L O ≡ Refused (refusal ROOM r)
+    pub run_full : full_at n w S L O r ≡ true → walks_test n w k S L O ≡ Err (refusal ROOM r)
     unfolding walks_test
     run_full e =
         rw (stop_here (either_left (full_at n w S L O r) (far_at n S L O r) e), e) (test_refused ROOM r (ne_eqb r k (omega arith)))
 
     -- FAR at 0
-    pub run_far : full_at n w S L O r ≡ false → far_at n S L O r ≡ true → walks_test n w k S L O ≡ Refused (refusal FAR 0)
+    pub run_far : full_at n w S L O r ≡ false → far_at n S L O r ≡ true → walks_test n w k S L O ≡ Err (refusal FAR 0)
     unfolding walks_test
     run_far e f =
         rw (stop_here (either_right (full_at n w S L O r) (far_at n S L O r) f), e) (test_refused FAR 0 (ne_eqb r k (omega arith)))
 
-  pub run_end : (k : ℕ) → ((j : ℕ) → j < k → stops n w S L O j ≡ false) → walks_test n w k S L O ≡ Fine
+  pub run_end : (k : ℕ) → ((j : ℕ) → j < k → stops n w S L O j ≡ false) → walks_test n w k S L O ≡ fine
   unfolding walks_test stop_at
   run_end k none = test_fine _ _ (none_end (stops n w S L O) k none)
 
   -- no walk refused: the run stopped at k, and no row there is over w
-  module _ (k : ℕ) (e : walks_test n w k S L O ≡ Fine) where
+  module _ (k : ℕ) (e : walks_test n w k S L O ≡ fine) where
     pub at_end : stop_at n w k S L O ≡ k
     unfolding walks_test
     at_end = eqb-true (stop_at n w k S L O) k (test_held _ _ _ e)

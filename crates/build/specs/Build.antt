@@ -1,13 +1,12 @@
 -- What a build gives back and leaves in the rooms it is lent: the paper's tests, and then the rows of the ROW RULE, not of
 -- any walk. n frames, width w, stop k, start positions S, neighbour places L, order O.
-use Rattle.std.specs.Prelude.{ℕ, suc, ◌+◌, ◌*◌, Bool, cond, ◌&&◌, ◌||◌, List, [], ◌∷◌, length, replicate, leb, ltb, eqb}
+use Rattle.refusal.specs.declared.Refusal.{Refusal}
+use Rattle.std.specs.Prelude.{ℕ, suc, ◌+◌, ◌*◌, Bool, cond, ◌&&◌, ◌||◌, List, [], ◌∷◌, length, replicate, leb, ltb, eqb, Ok, Err, Result}
 use Rattle.basics.specs.Places.{first, some, sum}
 use Rattle.refusal.specs.Numbers.{SIZE, LENGTH, ROOM, FAR}
 use Rattle.refusal.specs.Sizes.{most_joins, sizes_fit, places_fit}
-use Rattle.refusal.specs.Tests.{test, ◌then◌}
+use Rattle.refusal.specs.Tests.{test, ◌then◌, Verdict}
 use Rattle.refusal.specs.Told.{Told, gives, refuses}
-use Rattle.refusal.specs.declared.Verdict.{Verdict}
-use Rattle.refusal.specs.declared.Verdict.TheVariants.{Fine, Refused}
 use Rattle.theory.specs.Distance.{far}
 use Rattle.theory.specs.Links.{hub_of}
 use Rattle.theory.specs.Rows.{Row, hubs}
@@ -15,8 +14,10 @@ use Rattle.theory.specs.Plain.{joins_to, row_by}
 use Rattle.links.specs.Links.{starts_test, lists_test}
 use Rattle.links.specs.Order.{order_test}
 use Rattle.rows.specs.Laid.{labels_of, counts_of}
-use Rattle.build.specs.declared.Built.{Built}
-use Rattle.build.specs.declared.Built.TheVariants.{Entries, Refused as NotBuilt}
+
+-- the number of entries, or a refusal
+abbrev pub Built : Type 0
+Built = Result ℕ Refusal
 
 -- 1: n from 1 to 4,096, W from 1 to 256, k from 0 to n, neighbour places at most 65,536
 unfoldable pub build_sizes : ℕ → ℕ → ℕ → ℕ → Bool
@@ -68,8 +69,8 @@ walks_test n w k S L O =
 
 -- the paper's numbers: the number of entries
 unfoldable pub built_told : Built → Told
-built_told (Entries entries) = gives (entries ∷ [])
-built_told (NotBuilt r) = refuses r 1
+built_told (Ok entries) = gives (entries ∷ [])
+built_told (Err r) = refuses r 1
 
 -- what comes back, also in the paper's numbers, and what the lent rooms then hold
 pub record BuildOutcome : Type 0 where
@@ -94,19 +95,19 @@ build_outcome answer labels counts met queue =
 -- all walks made: the number of entries is the sum of all counts, and both work rooms are 0. A walk refused: labels,
 -- counts, work rooms all 0
 unfoldable pub after_walks : ℕ → ℕ → (ℕ → Row) → Verdict → BuildOutcome
-after_walks n w R Fine =
-    build_outcome (Entries (sum (counts_of n R))) (labels_of n w R) (counts_of n R) (replicate n 0) (replicate n 0)
-after_walks n w R (Refused r) =
-    build_outcome (NotBuilt r) (replicate (n * w) 0) (replicate n 0) (replicate n 0) (replicate n 0)
+after_walks n w R (Ok _) =
+    build_outcome (Ok (sum (counts_of n R))) (labels_of n w R) (counts_of n R) (replicate n 0) (replicate n 0)
+after_walks n w R (Err r) =
+    build_outcome (Err r) (replicate (n * w) 0) (replicate n 0) (replicate n 0) (replicate n 0)
 
 -- a test refused: every room as lent
 unfoldable pub after_tests : BuildOutcome → Verdict → BuildOutcome → BuildOutcome
-after_tests lent Fine made = made
-after_tests lent (Refused r) made = build_outcome (NotBuilt r) lent.labels lent.counts lent.met lent.queue
+after_tests lent (Ok _) made = made
+after_tests lent (Err r) made = build_outcome (Err r) lent.labels lent.counts lent.met lent.queue
 
 -- the build: its tests, then the rows by the row rule at stop k
 unfoldable pub build_of : ℕ → ℕ → ℕ → List ℕ → List ℕ → List ℕ → List ℕ → List ℕ → List ℕ → List ℕ → BuildOutcome
 build_of n w k S L O labels counts met queue =
     let made : BuildOutcome = after_walks n w (row_by n S L O k) (walks_test n w k S L O) in
-    after_tests (build_outcome (Entries 0) labels counts met queue)
+    after_tests (build_outcome (Ok 0) labels counts met queue)
     (build_tests n w k S L O (length labels) (length counts) (length met) (length queue)) made

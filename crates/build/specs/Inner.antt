@@ -1,18 +1,18 @@
 -- What the inner functions of the build ask of each other and promise: what the tests show, the rooms cleared, and the rooms
 -- that the walks leave.
-use Rattle.std.specs.Prelude.{ℕ, ◌*◌, ◌≤◌, ◌≡◌, List, length, replicate}
+use Rattle.std.specs.Prelude.{ℕ, ◌*◌, ◌≤◌, ◌≡◌, List, length, replicate, Ok, Err}
 use Rattle.refusal.specs.Numbers.{ROOM, FAR}
 use Rattle.refusal.specs.Inner.{Sizes}
 use Rattle.refusal.specs.Sizes.{most_frames}
-use Rattle.refusal.specs.Tests.{refusal}
-use Rattle.refusal.specs.declared.Verdict.{Verdict}
-use Rattle.refusal.specs.declared.Verdict.TheVariants.{Fine, Refused}
+use Rattle.refusal.specs.Tests.{refusal, Verdict, fine}
 use Rattle.theory.specs.Links.{Block, Order}
 use Rattle.theory.specs.Plain.{ones, row_by}
 use Rattle.rows.specs.Inner.{Laid}
 use Rattle.walk.specs.Inner.{lacking}
-use Rattle.walk.specs.declared.Walked.{Walked}
-use Rattle.walk.specs.declared.Walked.TheVariants.{Made, Full, Far}
+use Rattle.refusal.specs.declared.Refusal.{Refusal}
+use Rattle.walk.specs.Walk.{Walked}
+use Rattle.walk.specs.declared.Unmade.{Unmade}
+use Rattle.walk.specs.declared.Unmade.TheVariants.{Full, Far}
 use Rattle.build.specs.Build.{stop_at, walks_test}
 
 -- what the tests show of what is only read: a block and an order
@@ -39,11 +39,15 @@ pub record RunIn (n w k : ℕ) (S L O labels counts met queue noted : List ℕ) 
   pub queue_zero : queue ≡ replicate n 0
   pub noted_lacking : noted ≡ replicate most_frames lacking
 
--- what a walk of this rank makes of the build: ROOM at the rank, FAR at 0
+-- what a walk of this rank that is not made makes of the build: ROOM at the rank, FAR at 0
+unfoldable pub refusal_of : Unmade → ℕ → Refusal
+refusal_of Full rank = refusal ROOM rank
+refusal_of Far rank = refusal FAR 0
+
+-- and what any walk does
 unfoldable pub walk_verdict : Walked → ℕ → Verdict
-walk_verdict Made rank = Fine
-walk_verdict Full rank = Refused (refusal ROOM rank)
-walk_verdict Far rank = Refused (refusal FAR 0)
+walk_verdict (Ok _) rank = fine
+walk_verdict (Err unmade) rank = Err (refusal_of unmade rank)
 
 -- what the walks give back, and the rooms after them: the rows of the rule at the rank where they stopped
 pub record RunOut (n w k : ℕ) (S L O : List ℕ) (verdict : Verdict)

@@ -5,19 +5,11 @@ ghost use Rattle.std.specs.Prelude.{◌≡◌};
 ghost use Rattle.build.specs.Build.{build_outcome, build_of};
 
 use entry::Entry;
-use refusal::{Refusal, Verdict};
+use refusal::Refusal;
 
-mod clear;
 mod make;
 mod run;
 mod tests;
-
-// What a build gives back: the number of entries, or its refusal.
-#[derive(Clone, Copy)]
-pub enum Built {
-    Entries(usize),
-    Refused(Refusal),
-}
 
 // The build up to stop k, by the row rule. What the rooms hold before does not matter. A test refused leaves them as lent;
 // a walk refused leaves labels, counts and work rooms all 0.
@@ -32,14 +24,14 @@ pub fn build(
     counts: &mut [u32],
     met: &mut [u32],
     queue: &mut [u32],
-) -> Built
+) -> Result<usize, Refusal>
     ensures { build_outcome result labels.new counts.new met.new
         queue.new
         ≡ build_of n w k starts.now places.now order.now
         labels.old
         counts.old met.old queue.old }
 {
-    let tested = tests::tests(
+    tests::tests(
         n,
         w,
         k,
@@ -50,9 +42,6 @@ pub fn build(
         counts.len(),
         met.len(),
         queue.len(),
-    );
-    if let Verdict::Refused(refused) = tested {
-        return Built::Refused(refused);
-    }
+    )?;
     make::make(w, k, starts, places, order, labels, counts, met, queue)
 }

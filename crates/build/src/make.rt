@@ -4,11 +4,9 @@ ghost use Rattle.theory.specs.Plain.{row_by};
 ghost use Rattle.build.specs.Inner.{MakeIn};
 ghost use Rattle.build.specs.Build.{walks_test, build_outcome, after_walks};
 
-use crate::Built;
-use crate::clear::{clear, clear_labels};
 use crate::run::walks;
 use entry::Entry;
-use refusal::Verdict;
+use refusal::Refusal;
 use rows::rooms::total;
 
 // All walks, and the number of entries; where a walk is refused, every room 0.
@@ -22,7 +20,7 @@ pub fn make(
     counts: &mut [u32],
     met: &mut [u32],
     queue: &mut [u32],
-) -> Built
+) -> Result<usize, Refusal>
     requires { MakeIn (length counts.old) w k starts.now places.now order.now labels.old
         counts.old met.old queue.old }
     ensures { build_outcome result labels.new counts.new met.new
@@ -33,16 +31,14 @@ pub fn make(
         (walks_test (length counts.old) w k starts.now places.now
         order.now) }
 {
-    clear_labels(labels);
-    clear(counts);
-    clear(met);
-    clear(queue);
-    let walked = walks(w, k, starts, places, order, labels, counts, met, queue);
-    if let Verdict::Refused(refused) = walked {
-        clear_labels(labels);
-        clear(counts);
-        return Built::Refused(refused);
+    labels.fill(0);
+    counts.fill(0);
+    met.fill(0);
+    queue.fill(0);
+    if let Err(refusal) = walks(w, k, starts, places, order, labels, counts, met, queue) {
+        labels.fill(0);
+        counts.fill(0);
+        return Err(refusal);
     }
-    let entries = total(counts);
-    Built::Entries(entries)
+    Ok(total(counts))
 }

@@ -2,20 +2,20 @@
 ghost use Rattle.std.specs.Prelude.{◌≡◌, length, replicate};
 ghost use Rattle.refusal.specs.Sizes.{most_frames};
 ghost use Rattle.walk.specs.Inner.{lacking};
-ghost use Rattle.build.specs.Inner.{RunIn, RunOut, walk_verdict};
+ghost use Rattle.build.specs.Inner.{RunIn, RunOut, refusal_of};
 
 use entry::Entry;
-use refusal::Verdict;
-use walk::{LACKING, Walked, walk};
+use refusal::{Reason, Refusal};
+use walk::{LACKING, Lists, Unmade, walk};
 
-// What a walk of this rank makes of the build: ROOM at the rank, FAR at 0.
-pub fn walk_verdict(walked: Walked, rank: usize) -> Verdict
-    ensures { result ≡ walk_verdict walked rank }
+// What a walk of this rank makes of the build where it is not made: ROOM at the rank, FAR at 0.
+#[tactic(auto, unfolding(crate::specs::Inner::refusal_of))]
+pub fn refusal_of(unmade: Unmade, rank: usize) -> Refusal
+    ensures { result ≡ refusal_of unmade rank }
 {
-    match walked {
-        Walked::Made => Verdict::Fine,
-        Walked::Full => refusal::refused(refusal::ROOM, rank),
-        Walked::Far => refusal::refused(refusal::FAR, 0),
+    match unmade {
+        Unmade::Full => Reason::Room.at(rank),
+        Unmade::Far => Reason::Far.at(0),
     }
 }
 
@@ -31,7 +31,7 @@ pub fn run(
     met: &mut [u32],
     queue: &mut [u32],
     noted: &mut [u32],
-) -> Verdict
+) -> Result<(), Refusal>
     requires { RunIn (length counts.old) w k starts.now places.now order.now labels.old
         counts.old met.old queue.old
         noted.old }
@@ -39,19 +39,24 @@ pub fn run(
         order.now result
         labels.new counts.new met.new queue.new }
 {
-    let mut rank = 0;
-    while rank < k {
-        let hub = order[rank] as usize;
-        let walked = walk(
-            w, rank, starts, places, labels, counts, hub, met, queue, noted,
+    let lists = Lists { starts, places };
+    for (rank, &hub) in order[..k].iter().enumerate() {
+        let made = walk(
+            lists,
+            w,
+            rank,
+            labels,
+            counts,
+            hub as usize,
+            met,
+            queue,
+            noted,
         );
-        let verdict = walk_verdict(walked, rank);
-        let Verdict::Fine = verdict else {
-            return verdict;
-        };
-        rank += 1;
+        if let Err(unmade) = made {
+            return Err(refusal_of(unmade, rank));
+        }
     }
-    Verdict::Fine
+    Ok(())
 }
 
 // The same, with the notes of the hub's row that the walks share: `LACKING` at every rank.
@@ -65,7 +70,7 @@ pub fn walks(
     counts: &mut [u32],
     met: &mut [u32],
     queue: &mut [u32],
-) -> Verdict
+) -> Result<(), Refusal>
     requires { RunIn (length counts.old) w k starts.now places.now order.now labels.old
         counts.old met.old queue.old
         (replicate most_frames lacking) }

@@ -3,23 +3,19 @@
 ghost use Rattle.std.specs.Prelude.{◌≡◌, ◌≤◌};
 ghost use Rattle.build.specs.Build.{build_sizes, build_rooms, build_tests};
 
-use refusal::Verdict;
+use refusal::sizes::{places_fit, sizes_fit};
+use refusal::{Reason, Refusal, test};
 
 // n, W, k and the number of neighbour places are in range.
+#[tactic(auto, unfolding(crate::specs::Build::build_sizes))]
 pub fn build_sizes(n: usize, w: usize, k: usize, places: usize) -> bool
     ensures { result ≡ build_sizes n w k places }
 {
-    let sizes = refusal::sizes::sizes_fit(n, w);
-    if !sizes {
-        return false;
-    }
-    if n < k {
-        return false;
-    }
-    refusal::sizes::places_fit(places)
+    sizes_fit(n, w) && k <= n && places_fit(places)
 }
 
 // Every room has its exact length.
+#[tactic(auto, unfolding(crate::specs::Build::build_rooms))]
 pub fn build_rooms(
     n: usize,
     w: usize,
@@ -33,24 +29,7 @@ pub fn build_rooms(
     requires { (n ≤ 4096) × (w ≤ 256) }
     ensures { result ≡ build_rooms n w starts order labels counts met queue }
 {
-    let starts_long = n + 1;
-    if starts != starts_long {
-        return false;
-    }
-    if order != n {
-        return false;
-    }
-    let labels_long = n * w;
-    if labels != labels_long {
-        return false;
-    }
-    if counts != n {
-        return false;
-    }
-    if met != n {
-        return false;
-    }
-    queue == n
+    starts == n + 1 && order == n && labels == n * w && counts == n && met == n && queue == n
 }
 
 // Tests 1 to 5; the four rooms that the build fills by their lengths.
@@ -65,22 +44,14 @@ pub fn tests(
     counts: usize,
     met: usize,
     queue: usize,
-) -> Verdict
+) -> Result<(), Refusal>
     ensures { result
         ≡ build_tests n w k starts.now places.now order.now labels
         counts met queue }
 {
-    let sizes = build_sizes(n, w, k, places.len());
-    if !sizes {
-        return refusal::refused(refusal::SIZE, 0);
-    }
-    let lengths = build_rooms(n, w, starts.len(), order.len(), labels, counts, met, queue);
-    if !lengths {
-        return refusal::refused(refusal::LENGTH, 0);
-    }
-    let sound = links::check_links(n, starts, places);
-    let Verdict::Fine = sound else {
-        return sound;
-    };
+    test(build_sizes(n, w, k, places.len()), Reason::Size, 0)?;
+    let long = build_rooms(n, w, starts.len(), order.len(), labels, counts, met, queue);
+    test(long, Reason::Length, 0)?;
+    links::check_links(n, starts, places)?;
     links::check_order(n, order)
 }

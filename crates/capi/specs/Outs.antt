@@ -1,6 +1,7 @@
 -- What a C caller sees of a call: what is told of it, in the record that every answer has its numbers in, and the lent rooms.
-use Rattle.std.specs.Prelude.{ℕ, List, [], ◌∷◌}
-use Rattle.refusal.specs.Told.{Told, verdict_told}
+use Rattle.std.specs.Prelude.{ℕ, List, [], ◌∷◌, Result, Ok, Err}
+use Rattle.refusal.specs.Told.{Told, gives, refuses, verdict_told}
+use Rattle.refusal.specs.declared.Refusal.{Refusal}
 use Rattle.links.specs.Order.{Ordered}
 use Rattle.build.specs.Build.{BuildOutcome}
 use Rattle.file.specs.Writer.{WriteOutcome}
@@ -18,6 +19,11 @@ outs told rooms = record { told = told; rooms = rooms }
 -- the number returned, `*place`, and the other out values in the order of the parameters
 abbrev pub tells : ℕ → ℕ → List ℕ → Told
 tells number place values = record { number = number; place = place; values = values }
+
+-- the number and place of any answer
+unfoldable pub answer_told : {A : Type 0} → Result A Refusal → Told
+answer_told (Ok _) = gives []
+answer_told (Err r) = refuses r 0
 
 -- order by degree, order scattered: the order room
 unfoldable pub order_outs : Ordered → Outs

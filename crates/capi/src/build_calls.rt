@@ -3,7 +3,7 @@ ghost use Rattle.std.specs.Prelude.{◌≡◌, [], ◌∷◌};
 ghost use Rattle.build.specs.Build.{build_of};
 ghost use Rattle.capi.specs.Outs.{outs, tells, build_outs};
 
-use build::Built;
+use crate::tell::told;
 use entry::Entry;
 
 // `entries` is the number of entries of all rows.
@@ -27,16 +27,7 @@ pub fn seam_build(
         (build_of n w k starts.now places.now order.now
         labels.old counts.old met.old queue.old) }
 {
-    match build::build(n, w, k, starts, places, order, labels, counts, met, queue) {
-        Built::Entries(total) => {
-            *entries = total as u64;
-            *place = 0;
-            0
-        }
-        Built::Refused(r) => {
-            *entries = 0;
-            *place = r.place as u64;
-            r.number
-        }
-    }
+    let built = build::build(n, w, k, starts, places, order, labels, counts, met, queue);
+    *entries = built.unwrap_or(0) as u64;
+    told(&built, place)
 }

@@ -4,8 +4,10 @@ ghost use Rattle.file.specs.Writer.{write_of};
 ghost use Rattle.file.specs.Reader.{opened_told, header_of, read_of};
 ghost use Rattle.capi.specs.Outs.{outs, tells, write_outs, read_outs};
 
+use crate::tell::told;
 use entry::Entry;
-use file::{Opened, Written};
+use file::Index;
+use refusal::Refusal;
 
 // The writer: `bytes` is how many bytes of the output room it filled.
 pub fn seam_write(
@@ -25,38 +27,19 @@ pub fn seam_write(
         (write_of n w k order.now labels.now counts.now
         out.old start) }
 {
-    match file::write(n, w, k, order, labels, counts, out, start) {
-        Written::Bytes(filled) => {
-            *bytes = filled as u64;
-            *place = 0;
-            0
-        }
-        Written::Refused(r) => {
-            *bytes = 0;
-            *place = r.place as u64;
-            r.number
-        }
-    }
+    let written = file::write(n, w, k, order, labels, counts, out, start);
+    *bytes = written.unwrap_or(0) as u64;
+    told(&written, place)
 }
 
 // What opening a file gave: n and k, or the number and place of its refusal.
-fn opened(answer: Opened, n: &mut u64, k: &mut u64, place: &mut u64) -> u32
+fn opened(answer: Result<Index, Refusal>, n: &mut u64, k: &mut u64, place: &mut u64) -> u32
     ensures { tells result place.new (n.new ∷ k.new ∷ []) ≡ opened_told answer }
 {
-    match answer {
-        Opened::Index(frames, stop) => {
-            *n = frames as u64;
-            *k = stop as u64;
-            *place = 0;
-            0
-        }
-        Opened::Refused(r) => {
-            *n = 0;
-            *k = 0;
-            *place = r.place as u64;
-            r.number
-        }
-    }
+    let index = answer.unwrap_or(Index { n: 0, k: 0 });
+    *n = index.n as u64;
+    *k = index.k as u64;
+    told(&answer, place)
 }
 
 // The header alone.

@@ -12,14 +12,14 @@ pub fn seam_check_links(n: usize, starts: &[u32], places: &[u32], place: &mut u6
     ensures { tells result place.new []
         ≡ verdict_told (check_links n starts.now places.now) }
 {
-    told(links::check_links(n, starts, places), place)
+    told(&links::check_links(n, starts, places), place)
 }
 
 // Check order.
 pub fn seam_check_order(n: usize, order: &[u32], place: &mut u64) -> u32
     ensures { tells result place.new [] ≡ verdict_told (check_order n order.now) }
 {
-    told(links::check_order(n, order), place)
+    told(&links::check_order(n, order), place)
 }
 
 // Order by degree.
@@ -33,7 +33,7 @@ pub fn seam_order_by_degree(
     ensures { outs (tells result place.new []) (order.new ∷ [])
         ≡ order_outs (degree_of n starts.now places.now order.old) }
 {
-    told(links::order_by_degree(n, starts, places, order), place)
+    told(&links::order_by_degree(n, starts, places, order), place)
 }
 
 // Order scattered.
@@ -47,5 +47,5 @@ pub fn seam_order_scattered(
     ensures { outs (tells result place.new []) (order.new ∷ [])
         ≡ order_outs (scattered_of n starts.now places.now order.old) }
 {
-    told(links::order_scattered(n, starts, places, order), place)
+    told(&links::order_scattered(n, starts, places, order), place)
 }

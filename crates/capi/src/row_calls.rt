@@ -10,10 +10,6 @@ ghost use Rattle.capi.specs.Outs.{tells};
 
 use crate::tell::told;
 use entry::Entry;
-use refusal::Verdict;
-use rows::pair::Answer;
-use rows::spread::SpreadAnswer;
-use rows::within::WithinAnswer;
 
 // The pair question: `found` is 1 with the joins, 0 with 0 for none.
 pub fn seam_pair(
@@ -30,26 +26,11 @@ pub fn seam_pair(
     ensures { tells result place.new (found.new ∷ joins.new ∷ [])
         ≡ pair_told (pair_of n w labels.now counts.now s t) }
 {
-    match rows::pair::pair(n, w, labels, counts, s, t) {
-        Answer::Joins(sum) => {
-            *found = 1;
-            *joins = sum as u64;
-            *place = 0;
-            0
-        }
-        Answer::None => {
-            *found = 0;
-            *joins = 0;
-            *place = 0;
-            0
-        }
-        Answer::Refused(r) => {
-            *found = 0;
-            *joins = 0;
-            *place = r.place as u64;
-            r.number
-        }
-    }
+    let answer = rows::pair::pair(n, w, labels, counts, s, t);
+    let sum = answer.unwrap_or(None);
+    *found = u32::from(sum.is_some());
+    *joins = sum.unwrap_or(0) as u64;
+    told(&answer, place)
 }
 
 // The row check.
@@ -64,7 +45,7 @@ pub fn seam_check_row(
     ensures { tells result place.new []
         ≡ verdict_told (check_row n w labels.now counts.now v) }
 {
-    told(rows::check::check_row(n, w, labels, counts, v), place)
+    told(&rows::check::check_row(n, w, labels, counts, v), place)
 }
 
 // The row lookup: where its part starts in the label room, and its length.
@@ -81,20 +62,18 @@ pub fn seam_row(
     ensures { tells result place.new (start.new ∷ count.new ∷ [])
         ≡ row_told n w labels.now counts.now v }
 {
-    match rows::check::check_row(n, w, labels, counts, v) {
-        Verdict::Fine => {
+    let checked = rows::check::check_row(n, w, labels, counts, v);
+    match checked {
+        Ok(()) => {
             *start = (v * w) as u64;
             *count = counts[v] as u64;
-            *place = 0;
-            0
         }
-        Verdict::Refused(r) => {
+        Err(_) => {
             *start = 0;
             *count = 0;
-            *place = r.place as u64;
-            r.number
         }
     }
+    told(&checked, place)
 }
 
 // The spread question.
@@ -109,18 +88,9 @@ pub fn seam_spread(
     ensures { tells result place.new (spread.new ∷ [])
         ≡ spread_told (spread_of n w labels.now counts.now) }
 {
-    match rows::spread::spread(n, w, labels, counts) {
-        SpreadAnswer::Spread(joins) => {
-            *spread = joins as u64;
-            *place = 0;
-            0
-        }
-        SpreadAnswer::Refused(r) => {
-            *spread = 0;
-            *place = r.place as u64;
-            r.number
-        }
-    }
+    let answer = rows::spread::spread(n, w, labels, counts);
+    *spread = answer.unwrap_or(0) as u64;
+    told(&answer, place)
 }
 
 // Within so many joins: `yes` is 1 or 0.
@@ -138,21 +108,7 @@ pub fn seam_within(
     ensures { tells result place.new (yes.new ∷ [])
         ≡ within_told (within_of n w labels.now counts.now s t limit) }
 {
-    match rows::within::within(n, w, labels, counts, s, t, limit) {
-        WithinAnswer::Yes => {
-            *yes = 1;
-            *place = 0;
-            0
-        }
-        WithinAnswer::No => {
-            *yes = 0;
-            *place = 0;
-            0
-        }
-        WithinAnswer::Refused(r) => {
-            *yes = 0;
-            *place = r.place as u64;
-            r.number
-        }
-    }
+    let answer = rows::within::within(n, w, labels, counts, s, t, limit);
+    *yes = u32::from(answer.unwrap_or(false));
+    told(&answer, place)
 }

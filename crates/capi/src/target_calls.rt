@@ -8,7 +8,6 @@ ghost use Rattle.capi.specs.Outs.{tells};
 
 use crate::tell::told;
 use entry::Entry;
-use targets::nearest::NearestTarget;
 use targets::record::{Listed, Target, take_apart};
 
 // Nearest target, of records taken apart.
@@ -26,26 +25,11 @@ fn tell_nearest(
     ensures { tells result place.new (found.new ∷ target.new ∷ [])
         ≡ nearest_told (nearest_of n w labels.now counts.now asked (frames_in listed)) }
 {
-    match targets::nearest::nearest_listed(n, w, labels, counts, asked, listed) {
-        NearestTarget::Record(i) => {
-            *found = 1;
-            *target = i as u64;
-            *place = 0;
-            0
-        }
-        NearestTarget::None => {
-            *found = 0;
-            *target = 0;
-            *place = 0;
-            0
-        }
-        NearestTarget::Refused(r) => {
-            *found = 0;
-            *target = 0;
-            *place = r.place as u64;
-            r.number
-        }
-    }
+    let answer = targets::nearest::nearest_listed(n, w, labels, counts, asked, listed);
+    let record = answer.unwrap_or(None);
+    *found = u32::from(record.is_some());
+    *target = record.unwrap_or(0) as u64;
+    told(&answer, place)
 }
 
 // The sixteen counts, of records taken apart.
@@ -62,10 +46,8 @@ fn tell_sixteen(
         ≡ sixteen_told (sixteen_of n w labels.now counts.now (frames_in listed)) }
 {
     let answer = targets::sixteen::sixteen_listed(n, w, labels, counts, listed);
-    let made = answer.counts;
-    let verdict = answer.verdict;
-    *sixteen = made;
-    told(verdict, place)
+    *sixteen = answer.unwrap_or([0; 16]);
+    told(&answer, place)
 }
 
 // Nearest target: `found` is 1 with the place of the record in the list, 0 with 0 for none.

@@ -1,22 +1,22 @@
-// What a test found, told to a C caller: the links and the rows are tested alike.
+// What any answer tells a C caller beside its values: every function of this crate ends with it.
 ghost use Rattle.std.specs.Prelude.{◌≡◌, []};
-ghost use Rattle.refusal.specs.Told.{verdict_told};
-ghost use Rattle.capi.specs.Outs.{tells};
+ghost use Rattle.capi.specs.Outs.{tells, answer_told};
 
-use refusal::Verdict;
+use refusal::Refusal;
 
-// A verdict's number, and its place written out.
-pub fn told(verdict: Verdict, place: &mut u64) -> u32
-    ensures { tells result place.new [] ≡ verdict_told verdict }
+// The number of an answer, 0 for success, and its place written out.
+#[tactic(auto, unfolding(crate::specs::Outs::answer_told))]
+pub fn told<T>(answer: &Result<T, Refusal>, place: &mut u64) -> u32
+    ensures { tells result place.new [] ≡ answer_told answer.now }
 {
-    match verdict {
-        Verdict::Fine => {
+    match answer {
+        Ok(_) => {
             *place = 0;
             0
         }
-        Verdict::Refused(r) => {
-            *place = r.place as u64;
-            r.number
+        Err(refusal) => {
+            *place = refusal.place as u64;
+            refusal.number()
         }
     }
 }

@@ -1,152 +1,83 @@
 // 'Checked by hand', the cases without a star.
-ghost use Rattle.std.specs.Prelude.{◌*◌, ◌≤◌};
+ghost use Rattle.std.specs.Prelude.{◌≤◌};
 
-use crate::print;
-use build::Built;
-use file::Written;
-use refusal::Verdict;
-use rows::pair::Answer;
-
-// What a build gave.
-fn built(answer: Built) {
-    match answer {
-        Built::Entries(entries) => {
-            print::number(entries);
-            print::words(b" entries\n");
-        }
-        Built::Refused(refusal) => print::refused(refusal),
-    }
-}
-
-// A build with every hub. The work rooms are its own.
-fn whole(
-    n: usize,
-    w: usize,
-    starts: &[u32],
-    places: &[u32],
-    order: &[u32],
-    labels: &mut [u32],
-    counts: &mut [u32],
-) -> Built
-    requires { n ≤ 4097 }
-{
-    let mut met = [0u32; 4097];
-    let mut queue = [0u32; 4097];
-    build::build(
-        n,
-        w,
-        n,
-        starts,
-        places,
-        order,
-        labels,
-        counts,
-        &mut met[..n],
-        &mut queue[..n],
-    )
-}
+use crate::rooms::Rooms;
+use std::alloc::{AllocError, Global};
 
 // The chain 0-1-2-3: its file has 39 bytes.
-fn chain() {
-    let starts = [0u32, 1, 3, 5, 6];
-    let places = [1u32, 0, 2, 1, 3, 2];
-    let order = [1u32, 2, 0, 3];
-    let mut labels = [0u32; 12];
-    let mut counts = [0u32; 4];
-    whole(4, 3, &starts, &places, &order, &mut labels, &mut counts);
-    let mut out = [0u8; 64];
-    let written = file::write(4, 3, 4, &order, &labels, &counts, &mut out, 0);
-    if let Written::Bytes(size) = written {
-        print::words(b"chain, k = 4, W = 3: file of ");
-        print::number(size);
-        print::words(b" bytes\n");
+fn chain(rt: &impl Print, alloc: Global) -> Result<(), AllocError> {
+    let mut rooms = Rooms::new(alloc, 4, 3)?;
+    rooms.order = vec![in alloc; 1, 2, 0, 3]?;
+    if rooms.build(&[0, 1, 3, 5, 6], &[1, 0, 2, 1, 3, 2]).is_ok()
+        && let Ok(size) = rooms.write(4, &mut [0; 64])
+    {
+        let _ = println!(rt; "chain, k = 4, W = 3: file of {size} bytes");
     }
+    Ok(())
 }
 
 // Three frames, only link 0-1, order 0,1,2, k = 3: (2,2) is 0.
-fn apart() {
-    let starts = [0u32, 1, 2, 2];
-    let places = [1u32, 0];
-    let order = [0u32, 1, 2];
-    let mut labels = [0u32; 6];
-    let mut counts = [0u32; 3];
-    whole(3, 2, &starts, &places, &order, &mut labels, &mut counts);
-    let answer = rows::pair::pair(3, 2, &labels, &counts, 2, 2);
-    if let Answer::Joins(joins) = answer {
-        print::words(b"three frames, link 0-1, k = 3: pair (2,2) ");
-        print::number(joins);
-        print::words(b"\n");
+fn apart(rt: &impl Print, alloc: Global) -> Result<(), AllocError> {
+    let mut rooms = Rooms::new(alloc, 3, 2)?;
+    rooms.order = vec![in alloc; 0, 1, 2]?;
+    if rooms.build(&[0, 1, 2, 2], &[1, 0]).is_ok()
+        && let Ok(Some(joins)) = rooms.pair(2, 2)
+    {
+        let _ = println!(rt; "three frames, link 0-1, k = 3: pair (2,2) {joins}");
     }
-}
-
-// The bytes of a room.
-fn bytes(room: &[u8]) {
-    let mut i: usize = 0;
-    while i < room.len() {
-        print::byte(room[i]);
-        i += 1;
-    }
+    Ok(())
 }
 
 // One frame, k = 0: its file of seven bytes.
-fn alone() {
-    let order = [0u32; 1];
-    let labels = [0u32; 1];
-    let counts = [0u32; 1];
-    let mut out = [255u8; 7];
-    file::write(1, 1, 0, &order, &labels, &counts, &mut out, 0);
-    print::words(b"one frame, k = 0: file");
-    bytes(&out);
-    print::words(b"\n");
+fn alone(rt: &impl Print, alloc: Global) -> Result<(), AllocError> {
+    let rooms = Rooms::new(alloc, 1, 1)?;
+    let mut file = [255; 7];
+    let _ = rooms.write(0, &mut file);
+    let _ = print!(rt; "one frame, k = 0: file");
+    for byte in &file {
+        let _ = print!(rt; " {byte:02x}");
+    }
+    let _ = println!(rt;);
+    Ok(())
 }
 
 // n frames with no link, rooms cut for n and w, built whole. All degrees are equal, so the order is the frames' own.
-fn unlinked(n: usize, w: usize)
-    requires { (n ≤ 4097) × (n * w ≤ 4097) }
+fn unlinked(
+    rt: &impl Print,
+    alloc: Global,
+    name: &str,
+    n: usize,
+    w: usize,
+) -> Result<(), AllocError>
+    requires { (n ≤ 4097) × (w ≤ 257) }
 {
-    let starts = [0u32; 4098];
-    let mut order = [0u32; 4097];
-    let mut labels = [0u32; 4097];
-    let mut counts = [0u32; 4097];
-    let ends = n + 1;
-    let label_places = n * w;
-    links::order_by_degree(n, &starts[..ends], &[], &mut order[..n]);
-    let answer = whole(
-        n,
-        w,
-        &starts[..ends],
-        &[],
-        &order[..n],
-        &mut labels[..label_places],
-        &mut counts[..n],
-    );
-    built(answer);
+    let starts = vec![in alloc; 0; n + 1]?;
+    let mut rooms = Rooms::new(alloc, n, w)?;
+    // What refuses the order refuses the build too.
+    let _ = rooms.order_by_degree(&starts, &[]);
+    let _ = match rooms.build(&starts, &[]) {
+        Ok(entries) => println!(rt; "{name}: {entries} entries"),
+        Err(refusal) => println!(rt; "{name}: {refusal}"),
+    };
+    Ok(())
 }
 
 // Link 0-0: LINKS at 0.
-fn looped() {
-    let starts = [0u32, 1];
-    let places = [0u32];
-    let verdict = links::check_links(1, &starts, &places);
-    if let Verdict::Refused(refusal) = verdict {
-        print::words(b"link 0-0: ");
-        print::refused(refusal);
+fn looped(rt: &impl Print) {
+    if let Err(refusal) = links::check_links(1, &[0, 1], &[0]) {
+        let _ = println!(rt; "link 0-0: {refusal}");
     }
 }
 
-pub fn run() {
-    chain();
-    apart();
-    alone();
-    print::words(b"n 4,096: ");
-    unlinked(4096, 1);
-    print::words(b"n 4,097: ");
-    unlinked(4097, 1);
-    print::words(b"W 256: ");
-    unlinked(1, 256);
-    print::words(b"W 257: ");
-    unlinked(1, 257);
-    print::words(b"W 0: ");
-    unlinked(1, 0);
-    looped();
+pub fn run(rt: &impl Print, alloc: Global) -> Result<(), AllocError> {
+    chain(rt, alloc)?;
+    apart(rt, alloc)?;
+    alone(rt, alloc)?;
+    unlinked(rt, alloc, "n 4,096", 4096, 1)?;
+    unlinked(rt, alloc, "n 4,097", 4097, 1)?;
+    unlinked(rt, alloc, "W 256", 1, 256)?;
+    unlinked(rt, alloc, "W 257", 1, 257)?;
+    unlinked(rt, alloc, "W 0", 1, 0)?;
+    looped(rt);
+    Ok(())
 }

@@ -8,51 +8,47 @@
 // a build with 32 is refused with ROOM. Scattered, the longest row has 27.
 #![tactic(auto)]
 
-use build::Built;
-use file::Written;
-use refusal::Verdict;
+use refusal::Refusal;
+use std::alloc::AllocError;
+use survey::{FRAMES, Survey};
 
 mod survey;
 
-// Writes the first bytes of a room to standard output.
-fn send(room: &[u8], size: usize) {
-    if size <= room.len() {
-        io::write_all(1, &room[..size]);
-    }
-}
+const N: usize = FRAMES as usize;
 
-fn main() {
-    let mut starts = [0u32; 257];
-    let mut places = [0u32; 1024];
-    let mut order = [0u32; 256];
-    let end = survey::links(&mut starts, &mut places);
-    let ordered = links::order_scattered(256, &starts, &places[..end], &mut order);
-    let Verdict::Fine = ordered else {
-        return;
-    };
-    let mut labels = [0u32; 8192];
-    let mut counts = [0u32; 256];
-    let mut met = [0u32; 256];
-    let mut queue = [0u32; 256];
-    let built = build::build(
-        256,
-        32,
-        256,
-        &starts,
-        &places[..end],
+// Most entries of a row.
+const W: usize = 32;
+
+// Puts the index file of a survey, with every frame a hub, at the front of a room, and gives back its length. All memory is
+// lent: the library takes none of its own.
+fn write_index(survey: &Survey, file: &mut [u8]) -> Result<usize, Refusal> {
+    let Survey { starts, places } = survey;
+    let mut order = [0; N];
+    links::order_scattered(N, starts, places, &mut order)?;
+    let mut labels = [0; N * W];
+    let mut counts = [0; N];
+    build::build(
+        N,
+        W,
+        N,
+        starts,
+        places,
         &order,
         &mut labels,
         &mut counts,
-        &mut met,
-        &mut queue,
-    );
-    let Built::Entries(_) = built else {
-        return;
-    };
-    let mut file = [0u8; 25252];
-    let written = file::write(256, 32, 256, &order, &labels, &counts, &mut file, 0);
-    let Written::Bytes(size) = written else {
-        return;
-    };
-    send(&file, size);
+        &mut [0; N],
+        &mut [0; N],
+    )?;
+    file::write(N, W, N, &order, &labels, &counts, file, 0)
+}
+
+fn main(rt: HostRuntime) -> Result<(), AllocError> {
+    let survey = Survey::new(rt.alloc())?;
+    let mut file = [0; 25252];
+    if let Ok(size) = write_index(&survey, &mut file)
+        && let Some(bytes) = file.get(..size)
+    {
+        let _ = rt.write_all(bytes);
+    }
+    Ok(())
 }

@@ -3,11 +3,11 @@ use Prim.Native.Nat.{ℕ, ◌+◌, ◌*◌, ◌/◌, ◌%◌, ◌^◌, ◌≤◌
 use mathlib.Core.Path.{◌≡◌, refl, sym, ap, ap₂, subst, ◌∙◌}
 use mathlib.Core.List.{List}
 use native.Mathlib.Omega.{arith}
-use native.Mathlib.Nat.{mod-lt, mod-eq_of_lt}
+use native.Mathlib.Nat.{mod-eq_of_lt}
 use native.Mathlib.Numerals.{add-one}
 use lib.ListN.{length, set, take, drop, length-set}
 use lib.Seq.{take-suc-set, drop-set-lt}
-use lib.Pow.{pow_pos, pow-add, mod-pow-add}
+use lib.Pow.{pow-add, mod-pow-add}
 use lib.Arith.{digits_lt}
 use Rattle.basics.proofs.Laws.{drop_later}
 use Rattle.fields.specs.declared.put.Pen.{Pen}
@@ -49,18 +49,18 @@ module _ {o₀ : List ℕ} {x b whole : ℕ} {o : List ℕ} {at nb : ℕ} (s : B
       }
 
 -- fields as one number, behind the bits that the pen holds
-module _ {o : List ℕ} {p : Pen} {fs : List Field} (r : Ready o p fs) (L : ℕ) (l : bit_len fs ≡ L) where
+module _ {p : Pen} {fs : List Field} (r : Ready p fs) (L : ℕ) (l : bit_len fs ≡ L) where
   pub whole_lt : p.acc * 2 ^ L + num 0 fs < 2 ^ (p.nb + L)
   whole_lt =
       subst (λ (y : ℕ). p.acc * 2 ^ L + num 0 fs < y) (sym (pow-add 2 p.nb L))
-      (digits_lt r.below (subst (λ (k : ℕ). num 0 fs < 2 ^ k) l (num_lt fs r.legal)))
+      (digits_lt p.below (subst (λ (k : ℕ). num 0 fs < 2 ^ k) l (num_lt fs r.legal)))
 
   -- no byte is stored yet
   pub byte_none : {whole : ℕ} → whole ≡ p.acc * 2 ^ L + num 0 fs →
-      BytesLeft o (num (pen_num o p) fs) (pen_bits p + L) whole o p.at (p.nb + L)
+      BytesLeft p.out.now (num (pen_num p) fs) (pen_bits p + L) whole p.out.now p.at (p.nb + L)
   unfolding pen_num
   byte_none {whole} e =
-      let F : ℕ = val (take p.at o) in
+      let F : ℕ = val (take p.at p.out.now) in
       let N : ℕ = num 0 fs in
       let w : whole % 2 ^ (p.nb + L) ≡ p.acc * 2 ^ L + N = ap (λ (y : ℕ). y % 2 ^ (p.nb + L)) e ∙ mod-eq_of_lt whole_lt in
       record {
@@ -68,7 +68,7 @@ module _ {o : List ℕ} {p : Pen} {fs : List Field} (r : Ready o p fs) (L : ℕ)
         inside = omega (arith, r.space);
         number =
             ap₂ (λ (y z : ℕ). F * y + z) (pow-add 2 p.nb L) w
-            ∙ sym (num_split (pen_num o p) fs
+            ∙ sym (num_split (pen_num p) fs
             ∙ ap (λ (k : ℕ). (F * 2 ^ p.nb + p.acc) * 2 ^ k + N) l
             ∙ horner F p.acc N (2 ^ p.nb) (2 ^ L));
         long = refl;
@@ -76,20 +76,15 @@ module _ {o : List ℕ} {p : Pen} {fs : List Field} (r : Ready o p fs) (L : ℕ)
       }
 
   -- fewer than eight bits are left
-  pub byte_end : {whole : ℕ} {o1 : List ℕ} {at acc nb : ℕ} → BytesLeft o (num (pen_num o p) fs) (pen_bits p + L) whole o1 at nb →
-      nb < 8 → acc ≡ whole % 2 ^ nb → Put o p fs o1 (record { at = at; acc = acc; nb = nb })
+  pub byte_end : {whole : ℕ} {p1 : Pen} → p1.out.ghost_name ≡ p.out.ghost_name → BytesLeft p.out.now (num (pen_num p) fs) (pen_bits p + L) whole p1.out.now p1.at p1.nb →
+      p1.acc ≡ whole % 2 ^ p1.nb → Put p fs p1
   unfolding pen_num bit_len num Legal
-  byte_end {whole} {o1} {at} {acc} {nb} s h e =
+  byte_end {whole} {p1} same s e =
       record {
-        ready =
-            record {
-              small = h;
-              below = subst (λ (y : ℕ). y < 2 ^ nb) (sym e) (mod-lt whole (pow_pos nb));
-              space = omega (arith, s.bits, s.inside);
-              legal = tt;
-            };
+        ready = record { space = omega (arith, s.bits, s.inside); legal = tt };
+        same = same;
         bits = omega (arith, s.bits);
-        number = ap (λ (y : ℕ). val (take at o1) * 2 ^ nb + y) e ∙ s.number;
+        number = ap (λ (y : ℕ). val (take p1.at p1.out.now) * 2 ^ p1.nb + y) e ∙ s.number;
         long = s.long;
         keep = s.rest;
       }

@@ -3,9 +3,8 @@ use Prim.Native.Nat.{ℕ, ◌+◌, ◌-◌, ◌*◌, ◌/◌, ◌%◌, ◌^◌, 
 use mathlib.Core.Path.{◌≡◌, refl, sym, ap, ap₂, ◌∙◌}
 use mathlib.Core.List.{List}
 use native.Mathlib.Omega.{arith}
-use native.Mathlib.Nat.{mod-one, mod-lt, mod-eq_of_lt, sub_self}
+use native.Mathlib.Nat.{mod-one}
 use lib.ListN.{length, get_or}
-use lib.Pow.{pow_pos, pow_mono, split}
 use Rattle.fields.specs.Bits.{up_to, field_at, byte_len, Bytes}
 use Rattle.fields.proofs.Bits.{gather_step, gathered}
 
@@ -14,22 +13,6 @@ pub record Gathered (s : List ℕ) (p end at sum : ℕ) : Type 0 where
   pub low : p / 8 ≤ at
   pub high : at ≤ end
   pub is : sum ≡ up_to s (8 * at) % 2 ^ (8 * (at - p / 8))
-
-pub gather_none : (s : List ℕ) (p end : ℕ) → p / 8 ≤ end → Gathered s p end (p / 8) 0
-gather_none s p end h =
-    record {
-      low = omega arith;
-      high = h;
-      is = sym (ap (λ (k : ℕ). up_to s (8 * (p / 8)) % 2 ^ (8 * k)) (sub_self (p / 8)) ∙ mod-one (up_to s (8 * (p / 8))));
-    }
-
--- j bytes gathered are below 256 to the j
-pub gather_lt : {s : List ℕ} {p end at sum : ℕ} (j : ℕ) → Gathered s p end at sum → at ≤ p / 8 + j → sum < 2 ^ (8 * j)
-gather_lt {s} {p} {end} {at} {sum} j g h =
-    let m : ℕ = 8 * (at - p / 8) in
-    let a : up_to s (8 * at) % 2 ^ m < 2 ^ m = mod-lt (up_to s (8 * at)) (pow_pos m) in
-    let b : 2 ^ m ≤ 2 ^ (8 * j) = pow_mono {i = m} {j = 8 * j} (omega arith) in
-    omega (arith, g.is)
 
 pub gather_more : {s : List ℕ} {p end at sum : ℕ} → Bytes s → end ≤ length s → at < end → Gathered s p end at sum
     → Gathered s p end (at + 1) (sum * 256 + get_or s at 0)
@@ -42,14 +25,6 @@ gather_more {s} {p} {end} {at} {sum} b l h g =
       is =
           gather_step s at (at + 1) m sum b refl (omega arith) g.is ∙ ap (λ (j : ℕ). up_to s (8 * (at + 1)) % 2 ^ j) f;
     }
-
--- the highest bits of x, put back to their place, are at most x, and x without them is its last w bits
-pub cut : (x w : ℕ) → x < 2 ^ 64
-    → (x / 2 ^ w * 2 ^ w % 2 ^ 64 ≤ x) × (x - x / 2 ^ w * 2 ^ w % 2 ^ 64 ≡ x % 2 ^ w)
-cut x w h =
-    let a : x / 2 ^ w * 2 ^ w + x % 2 ^ w ≡ x = split x w in
-    let b : x / 2 ^ w * 2 ^ w % 2 ^ 64 ≡ x / 2 ^ w * 2 ^ w = mod-eq_of_lt (omega arith) in
-    (omega arith, omega arith)
 
 pub gather_done : (s : List ℕ) (p w : ℕ) {at sum : ℕ} → byte_len (p + w) ≤ length s → Gathered s p ((p + w + 7) / 8) at sum → (p + w + 7) / 8 ≤ at
     → sum / 2 ^ (8 * ((p + w + 7) / 8) - (p + w)) % 2 ^ w ≡ field_at s p w

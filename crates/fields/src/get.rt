@@ -8,21 +8,19 @@ ghost use Rattle.fields.specs.Inner.{Near};
 use crate::widths;
 
 // The value of the field of `width` bits at bit p.
+#[tactic(auto, unfolding(crate::specs::Bits::byte_len))]
 pub fn get(bytes: &[u8], p: usize, width: usize) -> usize
     requires { Near p width × (byte_len (p + width) ≤ length bytes.now) }
     ensures { result ≡ field_at bytes.now p width }
 {
     let end = (p + width + 7) / 8;
-    let mut at = p / 8;
-    let mut sum: usize = 0;
-    while at < end {
-        sum = sum * 256 + bytes[at] as usize;
-        at += 1;
+    let mut sum = 0;
+    // By place: over the part itself, `for byte in &bytes[p / 8..end]`, reading a file took a fifth longer.
+    for i in p / 8..end {
+        sum = sum * 256 + bytes[i] as usize;
     }
     let rest = 8 * end - (p + width);
-    let top = sum >> rest;
-    let high = (top >> width) << width;
-    top - high
+    (sum >> rest) & ((1 << width) - 1)
 }
 
 // The bits of an entry at bit p, where four bytes from its own on are there.
@@ -31,17 +29,12 @@ pub fn four(bytes: &[u8], p: usize) -> usize
     ensures { result ≡ field_at bytes.now p entry_bits }
 {
     let at = p / 8;
-    let first = bytes[at] as usize;
-    let second = bytes[at + 1] as usize;
-    let third = bytes[at + 2] as usize;
-    let fourth = bytes[at + 3] as usize;
-    let sum = first * 16777216 + second * 65536 + third * 256 + fourth;
-    let rest = 8 - p % 8;
-    let top = sum >> rest;
-    top % widths::ENTRY_VALUES
+    let sum = u32::from_be_bytes([bytes[at], bytes[at + 1], bytes[at + 2], bytes[at + 3]]);
+    (sum as usize >> (8 - p % 8)) % widths::ENTRY_VALUES
 }
 
 // The same wherever they are there.
+#[tactic(auto, using(crate::proofs::Bits::field_lt), unfolding(crate::specs::Bits::byte_len))]
 pub fn both(bytes: &[u8], p: usize) -> usize
     requires { (p < 2 ^ 30) × (byte_len (p + entry_bits) ≤ length bytes.now) }
     ensures { result ≡ field_at bytes.now p entry_bits }

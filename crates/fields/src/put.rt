@@ -1,163 +1,143 @@
-// The field writer: fields go into a byte string, most significant bit first. A pen is handed on by value; a byte is
-// stored once, when its eight bits are there, and what is not yet a byte stays with the pen.
-ghost use Rattle.std.specs.Prelude.{[], ◌∷◌, ℕ, ◌+◌, ◌-◌, ◌*◌, ◌≤◌, ◌<◌};
-ghost use Rattle.fields.specs.Bits.{field};
-ghost use Rattle.fields.specs.Layout.{header_fields, order_fields, entry_fields, entries_fields, row_fields, rows_fields};
-ghost use Rattle.fields.specs.Inner.{Ready, Put, Closed};
-ghost use Rattle.rows.specs.Inner.{RowLies};
+// The field writer: fields go into a byte string, most significant bit first. A byte is stored once, when its eight bits are
+// there, and what is not yet a byte stays with the pen.
+ghost use Rattle.std.specs.Prelude.{◌^◌, ◌<◌};
 
 use crate::widths;
 use entry;
 use entry::Entry;
 
-// A pen: `at` bytes are finished, and `nb` bits, below eight, of value `acc` are not yet a byte.
-#[derive(Clone, Copy)]
-pub struct Pen {
-    pub at: usize,
-    pub acc: usize,
-    pub nb: usize,
+// A pen and the room that it writes: `at` bytes are finished, and `nb` bits, below eight, of value `acc` are not yet a byte.
+#[derive(Drop)]
+pub struct Pen<'a> {
+    out: &'a mut [u8],
+    at: usize,
+    acc: usize,
+    nb: usize,
+    pub ghost small: { nb < 8 },
+    pub ghost below: { acc < 2 ^ nb },
 }
 
-// Puts one field, byte by byte: the number stays whole, and the bits that are no byte yet are cut off it at the end.
-pub fn put(out: &mut [u8], pen: Pen, value: usize, width: usize) -> Pen
-    requires { Ready out.old pen (field value width ∷ []) × (width ≤ 16) }
-    ensures { Put out.old pen (field value width ∷ []) out.new result }
-{
-    let mut at = pen.at;
-    let held = pen.acc;
-    let waiting = pen.nb;
-    let whole = (held << width) + value;
-    let mut nb = waiting + width;
-    while 8 <= nb {
-        nb -= 8;
-        let byte = (whole >> nb) % 256;
-        out[at] = byte as u8;
-        at += 1;
+impl<'a> Pen<'a> {
+    ghost use Rattle.std.specs.Prelude.{[], ◌∷◌, ℕ, ◌+◌, ◌*◌, ◌≤◌, ◌<◌, ◌≡◌};
+    ghost use Rattle.fields.specs.Bits.{field};
+    ghost use Rattle.fields.specs.Layout.{header_fields, order_fields, entry_fields, entries_fields, row_fields, rows_fields};
+    ghost use Rattle.fields.specs.Inner.{pen_bits, Ready, Put, Closed};
+    ghost use Rattle.rows.specs.Inner.{RowLies};
+
+    // A pen at the front of a room: nothing is written.
+    pub fn new(out: &'a mut [u8]) -> Pen<'a>
+        ensures same_reference { result.out.ghost_name ≡ out.entry.ghost_name }
+        ensures fresh { pen_bits result ≡ 0 }
+        ensures room { result.out.now ≡ out.old }
+    {
+        Pen {
+            out,
+            at: 0,
+            acc: 0,
+            nb: 0,
+        }
     }
-    let top = whole >> nb;
-    let acc = whole - (top << nb);
-    Pen { at, acc, nb }
-}
 
-// Puts one entry, its rank and its joins, as one number: three bytes are then whole, and as many bits wait as before.
-pub fn put_entry(out: &mut [u8], pen: Pen, e: Entry) -> Pen
-    requires { Ready out.old pen (entry_fields e) }
-    ensures { Put out.old pen (entry_fields e) out.new result }
-{
-    let rank = entry::rank_of(e);
-    let joins = entry::joins_of(e);
-    let at = pen.at;
-    let held = pen.acc;
-    let nb = pen.nb;
-    let both = (rank << widths::JOINS_BITS) + joins;
-    let whole = (held << widths::ENTRY_BITS) + both;
-    let first = (whole >> (nb + 16)) % 256;
-    let second = (whole >> (nb + 8)) % 256;
-    let top = whole >> nb;
-    let third = top % 256;
-    out[at] = first as u8;
-    out[at + 1] = second as u8;
-    out[at + 2] = third as u8;
-    let high = both >> nb;
-    let acc = both - (high << nb);
-    let next = at + 3;
-    Pen { at: next, acc, nb }
-}
-
-// Puts the entries of a row.
-pub fn put_entries(out: &mut [u8], pen: Pen, row: &[Entry]) -> Pen
-    requires { Ready out.old pen (entries_fields row.now) }
-    ensures { Put out.old pen (entries_fields row.now) out.new result }
-{
-    let mut tip = pen;
-    let mut i = 0;
-    while i < row.len() {
-        let e = row[i];
-        tip = put_entry(out, tip, e);
-        i += 1;
+    // Puts one field, byte by byte: the number stays whole, and the bits that are no byte yet are cut off it at the end.
+    pub fn put(&mut self, value: usize, width: usize)
+        requires { Ready self.old (field value width ∷ []) × (width ≤ 16) }
+        ensures { Put self.old (field value width ∷ []) self.new }
+    {
+        let whole = (self.acc << width) + value;
+        let mut at = self.at;
+        let mut nb = self.nb + width;
+        // A byte goes for as long as eight bits are there: no range of numbers says this more plainly.
+        while 8 <= nb {
+            nb -= 8;
+            self.out[at] = ((whole >> nb) % 256) as u8;
+            at += 1;
+        }
+        self.at = at;
+        self.acc = whole & ((1 << nb) - 1);
+        self.nb = nb;
     }
-    tip
-}
 
-// Puts the order: a field for each frame number.
-pub fn put_order(out: &mut [u8], pen: Pen, order: &[u32]) -> Pen
-    requires { Ready out.old pen (order_fields order.now) }
-    ensures { Put out.old pen (order_fields order.now) out.new result }
-{
-    let mut tip = pen;
-    let mut rank = 0;
-    while rank < order.len() {
-        let frame = order[rank] as usize;
-        tip = put(out, tip, frame, widths::FRAME_BITS);
-        rank += 1;
+    // Puts one entry, its rank and its joins, as one number: three bytes are then whole, and as many bits wait as before.
+    #[tactic(auto, unfolding(crate::specs::Bits::bit_len, crate::specs::Inner::Legal))]
+    pub fn put_entry(&mut self, e: Entry)
+        requires { Ready self.old (entry_fields e) }
+        ensures { Put self.old (entry_fields e) self.new }
+    {
+        let at = self.at;
+        let nb = self.nb;
+        let rank = entry::rank_of(e);
+        let joins = entry::joins_of(e);
+        let both = (rank << widths::JOINS_BITS) + joins;
+        let whole = (self.acc << widths::ENTRY_BITS) + both;
+        let [_, first, second, third] = ((whole >> nb) as u32).to_be_bytes();
+        self.out[at] = first;
+        self.out[at + 1] = second;
+        self.out[at + 2] = third;
+        self.at = at + 3;
+        self.acc = both & ((1 << nb) - 1);
     }
-    tip
-}
 
-// Puts the header: version, n - 1, k, spare.
-pub fn put_header(out: &mut [u8], pen: Pen, n: usize, k: usize) -> Pen
-    requires { Ready out.old pen (header_fields n k) × (1 ≤ n) }
-    ensures { Put out.old pen (header_fields n k) out.new result }
-{
-    let version = put(out, pen, widths::VERSION_VALUE, widths::VERSION_BITS);
-    let frames = put(out, version, n - 1, widths::FRAMES_BITS);
-    let stop = put(out, frames, k, widths::STOP_BITS);
-    put(out, stop, 0, widths::SPARE_BITS)
-}
-
-// Puts the row of frame v: its count, its entries.
-pub fn put_row(
-    out: &mut [u8],
-    pen: Pen,
-    w: usize,
-    labels: &[Entry],
-    counts: &[u32],
-    v: usize,
-) -> Pen
-    requires { Ready out.old pen (row_fields w labels.now counts.now v)
-        × RowLies w labels.now counts.now v }
-    ensures { Put out.old pen (row_fields w labels.now counts.now v)
-        out.new result }
-{
-    let count = counts[v] as usize;
-    let from = v * w;
-    let to = from + count;
-    let counted = put(out, pen, count, widths::COUNT_BITS);
-    put_entries(out, counted, &labels[from..to])
-}
-
-// Puts the rows of all n frames.
-pub fn put_rows(
-    out: &mut [u8],
-    pen: Pen,
-    n: usize,
-    w: usize,
-    labels: &[Entry],
-    counts: &[u32],
-) -> Pen
-    requires { Ready out.old pen (rows_fields w labels.now counts.now 0 n)
-        × ((v : ℕ) → v < n → RowLies w labels.now counts.now v) }
-    ensures { Put out.old pen (rows_fields w labels.now counts.now 0 n)
-        out.new result }
-{
-    let mut tip = pen;
-    let mut v = 0;
-    while v < n {
-        tip = put_row(out, tip, w, labels, counts, v);
-        v += 1;
+    // Puts the entries of a row.
+    pub fn put_entries(&mut self, row: &[Entry])
+        requires { Ready self.old (entries_fields row.now) }
+        ensures { Put self.old (entries_fields row.now) self.new }
+    {
+        for e in row {
+            self.put_entry(*e);
+        }
     }
-    tip
-}
 
-// Fills the last byte up with zero bits.
-pub fn close(out: &mut [u8], pen: Pen)
-    requires { Ready out.old pen [] }
-    ensures { Closed out.old pen out.new }
-{
-    let at = pen.at;
-    let nb = pen.nb;
-    if 0 < nb {
-        let last = pen.acc << (8 - nb);
-        out[at] = last as u8;
+    // Puts the order: a field for each frame number.
+    pub fn put_order(&mut self, order: &[u32])
+        requires { Ready self.old (order_fields order.now) }
+        ensures { Put self.old (order_fields order.now) self.new }
+    {
+        for frame in order {
+            self.put(*frame as usize, widths::FRAME_BITS);
+        }
+    }
+
+    // Puts the header: version, n - 1, k, spare.
+    pub fn put_header(&mut self, n: usize, k: usize)
+        requires { Ready self.old (header_fields n k) × (1 ≤ n) }
+        ensures { Put self.old (header_fields n k) self.new }
+    {
+        self.put(widths::VERSION_VALUE, widths::VERSION_BITS);
+        self.put(n - 1, widths::FRAMES_BITS);
+        self.put(k, widths::STOP_BITS);
+        self.put(0, widths::SPARE_BITS);
+    }
+
+    // Puts the row of frame v: its count, its entries.
+    pub fn put_row(&mut self, w: usize, labels: &[Entry], counts: &[u32], v: usize)
+        requires { Ready self.old (row_fields w labels.now counts.now v)
+            × RowLies w labels.now counts.now v }
+        ensures { Put self.old (row_fields w labels.now counts.now v) self.new }
+    {
+        let count = counts[v] as usize;
+        let from = v * w;
+        self.put(count, widths::COUNT_BITS);
+        self.put_entries(&labels[from..from + count]);
+    }
+
+    // Puts the rows of all n frames.
+    pub fn put_rows(&mut self, n: usize, w: usize, labels: &[Entry], counts: &[u32])
+        requires { Ready self.old (rows_fields w labels.now counts.now 0 n)
+            × ((v : ℕ) → v < n → RowLies w labels.now counts.now v) }
+        ensures { Put self.old (rows_fields w labels.now counts.now 0 n) self.new }
+    {
+        for v in 0..n {
+            self.put_row(w, labels, counts, v);
+        }
+    }
+
+    // Fills the last byte up with zero bits.
+    pub fn close(&mut self)
+        requires { Ready self.old [] }
+        ensures { Closed self.old self.new }
+    {
+        if 0 < self.nb {
+            self.out[self.at] = (self.acc << (8 - self.nb)) as u8;
+        }
     }
 }

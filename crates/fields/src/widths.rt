@@ -45,9 +45,9 @@ pub const EACH_FRAME_BITS: usize = FRAME_BITS + COUNT_BITS;
 pub const ENTRY_BITS: usize = RANK_BITS + JOINS_BITS;
 
 // How many values the joins have, and an entry: 2 to the power of their widths.
-pub const JOINS_VALUES: usize = 4096;
+pub const JOINS_VALUES: usize = 1 << JOINS_BITS;
 
-pub const ENTRY_VALUES: usize = 16777216;
+pub const ENTRY_VALUES: usize = 1 << ENTRY_BITS;
 
 // How many counts are legal: 0 to 256.
 pub const LEGAL_COUNTS: usize = refusal::sizes::MOST_WIDTH + 1;

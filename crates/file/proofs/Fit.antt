@@ -1,5 +1,6 @@
 -- An index that the writer's tests let through: every value fits its field, every row lies in the label room, and the file
 -- has as many bytes as the paper says.
+use Rattle.refusal.specs.Tests.{fine}
 use Prim.Native.Nat.{ℕ, ◌+◌, ◌*◌, ◌≤◌, ◌<◌}
 use mathlib.Core.Path.{◌≡◌, ◌∙◌}
 use mathlib.Core.Bool.{true}
@@ -13,7 +14,6 @@ use Rattle.basics.proofs.Laws.{both_true, both}
 use Rattle.refusal.specs.Numbers.{SIZE, LENGTH}
 use Rattle.refusal.specs.Sizes.{sizes_fit}
 use Rattle.refusal.specs.Inner.{Sizes}
-use Rattle.refusal.specs.declared.Verdict.TheVariants.{Fine}
 use Rattle.refusal.proofs.Laws.{test_fine, test_held, then_fine, after_fine}
 use Rattle.theory.specs.Links.{Order}
 use Rattle.links.proofs.Order.{order_sound}
@@ -48,7 +48,7 @@ rooms_in n w k O labels counts a b =
 
 module _ (n w k : ℕ) (O labels counts : List ℕ) where
   -- what the tests let through
-  pub fit : write_tests n w k O labels counts ≡ Fine → Fit n w k O labels counts
+  pub fit : write_tests n w k O labels counts ≡ fine → Fit n w k O labels counts
   unfolding write_tests
   fit e =
       let (size, rest) = then_fine _ _ e in
@@ -66,7 +66,7 @@ module _ (n w k : ℕ) (O labels counts : List ℕ) where
 
   module _ (f : Fit n w k O labels counts) where
     -- the tests let every such index through
-    pub fit_fine : write_tests n w k O labels counts ≡ Fine
+    pub fit_fine : write_tests n w k O labels counts ≡ fine
     unfolding write_tests index_sizes
     fit_fine =
         let r = f.rooms in
@@ -90,7 +90,7 @@ module _ (n w k : ℕ) (O labels counts : List ℕ) where
     fit_length v h = length_row f.rooms v h (fit_count v h)
 
     -- rows that are sound for the stop are so for n, as the spread question asks
-    pub fit_rows : check_rows n w n labels counts ≡ Fine
+    pub fit_rows : check_rows n w n labels counts ≡ fine
     fit_rows =
         rows_alone n w n labels counts f.rooms
         ∙ sound_all n w n labels counts (λ v h. sound_row_lem n w n labels counts v (fit_count v h) (sound_higher f.stop (fit_row v h)))

@@ -1,5 +1,6 @@
 -- The index that a file gives which is read without refusal: what its rooms hold, place by place, and that it is one that
 -- the writer takes.
+use Rattle.refusal.specs.Tests.{fine}
 use Prim.Native.Nat.{ℕ, suc, ◌+◌, ◌*◌, ◌≤◌, ◌<◌}
 use mathlib.Core.Path.{◌≡◌, ap, ap₂, ◌∙◌}
 use mathlib.Core.Bool.{Bool, ◌||◌}
@@ -12,7 +13,6 @@ use borrow.Author.Tests.{not-true}
 use Rattle.basics.specs.Places.{stands}
 use Rattle.basics.proofs.Laws.{some_ext, length_table, get_d_table}
 use Rattle.refusal.specs.Numbers.{ORDER}
-use Rattle.refusal.specs.declared.Verdict.{Verdict}
 use Rattle.refusal.proofs.Laws.{tests_each, none_lowest}
 use Rattle.links.specs.Order.{faulty_rank, order_test}
 use Rattle.entry.specs.Entry.{rank_of, joins_of}
@@ -100,7 +100,7 @@ module _ {s : List ℕ} {w order labels counts : ℕ} (r : Readable s w order la
 
   -- ---- it is an index that the writer takes
 
-  order_once : order_test (frames_of s) (order_read s (frames_of s)) ≡ Verdict.Fine
+  order_once : order_test (frames_of s) (order_read s (frames_of s)) ≡ fine
   unfolding order_test order_field_test
   order_once =
       let n : ℕ = frames_of s in
@@ -110,7 +110,7 @@ module _ {s : List ℕ} {w order labels counts : ℕ} (r : Readable s w order la
       ∙ not-true _ (field_legal s _ 12 _ (tests_each _ n r.ordered j b)))
 
   entry_fine : (v : ℕ) → v < frames_of s → (i : ℕ) → i < count_read s v
-      → entry_test s (frames_of s) (stop_of s) (row_bit s (frames_of s) v + 9 + 24 * i) (low_at s (row_bit s (frames_of s) v + 9) i) ≡ Verdict.Fine
+      → entry_test s (frames_of s) (stop_of s) (row_bit s (frames_of s) v + 9 + 24 * i) (low_at s (row_bit s (frames_of s) v + 9) i) ≡ fine
   unfolding count_at
   entry_fine v h i c =
       let n : ℕ = frames_of s in
@@ -138,7 +138,7 @@ module _ {s : List ℕ} {w order labels counts : ℕ} (r : Readable s w order la
             );
       }
 
-  rows_sound : rows_test (frames_of s) w (stop_of s) (labels_read s (frames_of s) w) (counts_read s (frames_of s)) ≡ Verdict.Fine
+  rows_sound : rows_test (frames_of s) w (stop_of s) (labels_read s (frames_of s) w) (counts_read s (frames_of s)) ≡ fine
   rows_sound = sound_all _ w _ _ _ (λ v h. sound_row_lem _ w _ _ _ v (row_fits v h) (row_sound v h))
 
   pub read_fit : Fit (frames_of s) w (stop_of s) (order_read s (frames_of s)) (labels_read s (frames_of s) w) (counts_read s (frames_of s))

@@ -1,6 +1,8 @@
 -- A file that is read without refusal is exactly the file of the index read: every test that was fine says that the
 -- layout's next field is there, so the bytes are the layout's fields packed. So a byte string is refused, or it is the file
 -- of one index.
+use Rattle.refusal.specs.Tests.{Verdict, fine}
+use Rattle.std.specs.Prelude.{Ok, Err}
 use Prim.Native.Nat.{ℕ, suc, ◌+◌, ◌-◌, ◌*◌, ◌≤◌, ◌<◌}
 use mathlib.Core.Path.{◌≡◌, refl, sym, ap, subst, ◌∙◌}
 use mathlib.Core.Logic.{◌⊎◌, inl, inr}
@@ -12,15 +14,12 @@ use borrow.Author.Tests.{leb-true, eqb-true}
 use Rattle.basics.proofs.Laws.{length_table}
 use Rattle.refusal.specs.Numbers.{FIELD, LONG}
 use Rattle.refusal.specs.declared.Refusal.{Refusal}
-use Rattle.refusal.specs.declared.Verdict.{Verdict}
 use Rattle.refusal.proofs.Laws.{test_held, then_fine, vcase}
-use Rattle.file.specs.declared.Opened.{Opened}
-use Rattle.file.specs.declared.Written.{Written}
 use Rattle.fields.specs.Bits.{field_at, Field, bit_len, byte_len, pad_len, Bytes}
 use Rattle.fields.specs.Inner.{Reads}
 use Rattle.fields.specs.Layout.{header_fields, order_fields, entry_fields, entries_fields, row_fields, rows_fields, file_fields, file_of}
 use Rattle.file.specs.Index.{stored, SameIndex}
-use Rattle.file.specs.Reader.{frames_of, stop_of, frame_at, end_test, read_test, row_bit, count_at, order_read, labels_read, counts_read, ReadOutcome, read_outcome, index_read, filled_in, read_of, opened_told}
+use Rattle.file.specs.Reader.{frames_of, stop_of, frame_at, end_test, read_test, row_bit, count_at, order_read, labels_read, counts_read, ReadOutcome, read_outcome, index_read, filled_in, read_of, opened_told, indexed}
 use Rattle.file.specs.Inner.{Fit}
 use Rattle.file.specs.Writer.{write_outcome, write_of}
 use Rattle.fields.proofs.Packed.{packed_reads, reads_append}
@@ -130,12 +129,12 @@ module _ {s : List ℕ} {w order labels counts : ℕ} (r : Readable s w order la
 -- ---- the round trip: what the reader handed over, handed to the writer
 
 module _ (s : List ℕ) (w : ℕ) (order labels counts : List ℕ) (n k : ℕ) (order₂ labels₂ counts₂ : List ℕ)
-    (given : read_outcome (Opened.Index n k) order₂ labels₂ counts₂ ≡ read_of s w order labels counts) where
-  read_fine : read_test s w (length order) (length labels) (length counts) ≡ Verdict.Fine
+    (given : read_outcome (indexed n k) order₂ labels₂ counts₂ ≡ read_of s w order labels counts) where
+  read_fine : read_test s w (length order) (length labels) (length counts) ≡ fine
   unfolding read_of
   read_fine = (index_is _ _ _ (ap (λ (x : ReadOutcome). x.answer) given ∙ answer_is _ s w order labels counts)).0
 
-  read_parts : read_outcome (Opened.Index n k) order₂ labels₂ counts₂ ≡ index_read s w
+  read_parts : read_outcome (indexed n k) order₂ labels₂ counts₂ ≡ index_read s w
   unfolding read_of filled_in
   read_parts = given ∙ ap (λ (v : Verdict). filled_in v s w order labels counts) read_fine
 
@@ -155,7 +154,7 @@ module _ (s : List ℕ) (w : ℕ) (order labels counts : List ℕ) (n k : ℕ) (
 
   -- so the writer fills the very bytes
   pub read_written : Bytes s → (out : List ℕ) (start filled : ℕ) (room : List ℕ)
-      → write_outcome (Written.Bytes filled) room ≡ write_of n w k order₂ labels₂ counts₂ out start → take filled (drop start room) ≡ s
+      → write_outcome (Ok filled) room ≡ write_of n w k order₂ labels₂ counts₂ out start → take filled (drop start room) ≡ s
   read_written bytes out start filled room e =
       done_file n w k order₂ labels₂ counts₂ out start filled room (write_done n w k order₂ labels₂ counts₂ out start filled room e) ∙ read_then_write bytes
 
@@ -170,7 +169,7 @@ module _ (s : List ℕ) (w : ℕ) (order labels counts : List ℕ) (n k : ℕ) (
       let wide : (v : ℕ) → v < m → get_or counts₃ v 0 ≤ w =
       λ v b.
       subst (λ (y : ℕ). y ≤ w) (ap (λ (y : ℕ). count_at s y v) frames ∙ count_found h v b) (count_fits r v (omega arith)) in
-      let all : read_outcome (Opened.Index n k) order₂ labels₂ counts₂ ≡ read_outcome (Opened.Index m j) order₃ (labels_read s m w) counts₃ =
+      let all : read_outcome (indexed n k) order₂ labels₂ counts₂ ≡ read_outcome (indexed m j) order₃ (labels_read s m w) counts₃ =
       given
       ∙ read_back h w wide r.some r.wide order labels counts (r.orders ∙ frames)
       (r.labelled ∙ ap (λ (y : ℕ). y * w) frames) (r.counted ∙ frames) in
@@ -181,7 +180,7 @@ module _ (s : List ℕ) (w : ℕ) (order labels counts : List ℕ) (n k : ℕ) (
 
 -- a byte string is refused, or it is the file of the index read
 pub refused_or_file : (s : List ℕ) → Bytes s → (w : ℕ) (order labels counts : List ℕ)
-    → ((r : Refusal) × (read_of s w order labels counts ≡ read_outcome (Opened.Refused r) order labels counts))
+    → ((r : Refusal) × (read_of s w order labels counts ≡ read_outcome (Err r) order labels counts))
     ⊎ ((file_read s w ≡ s)
     × (read_of s w order labels counts
     ≡ index_read s w))

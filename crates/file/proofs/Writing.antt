@@ -1,25 +1,20 @@
 -- The writer's outcome by cases: refused by a test on the index, refused for want of room, written.
+use Rattle.std.specs.Prelude.{Ok, Err}
 use Prim.Native.Nat.{ℕ, ◌+◌, ◌-◌, ◌≤◌}
 use mathlib.Core.Path.{◌≡◌, refl, sym, ap, ap₂, ◌∙◌}
 use mathlib.Core.Bool.{true}
 use mathlib.Core.List.{List, ◌++◌}
-use native.Mathlib.Omega.{arith}
 use borrow.Author.Tests.{le-leb, leb-true}
 use lib.ListN.{length, get_or, take, drop}
 use lib.Seq.{drop-drop, take_at, drop_at, length-take-le}
 use Rattle.basics.proofs.Laws.{both, both_true}
-use Rattle.refusal.specs.Numbers.{SIZE, LENGTH, ORDER, ROW, OUT}
-use Rattle.refusal.specs.Tests.{◌then◌}
+use Rattle.refusal.specs.Numbers.{OUT}
+use Rattle.refusal.specs.Tests.{◌then◌, Verdict, fine}
 use Rattle.refusal.specs.declared.Refusal.{Refusal}
-use Rattle.refusal.specs.declared.Verdict.{Verdict}
-use Rattle.refusal.specs.declared.Verdict.TheVariants.{Fine, Refused}
-use Rattle.refusal.proofs.Laws.{Numbered, test_fine, test_held, then_fine, after_fine, after_refused, test_numbered, then_numbered, vcase, Named, gives_apart, refuses_apart, gives_refuses}
-use Rattle.links.specs.Order.{order_test}
-use Rattle.rows.specs.Rooms.{rows_test}
+use Rattle.refusal.proofs.Laws.{test_fine, test_held, then_fine, after_fine, vcase, Named, named, gives_apart, refuses_apart, gives_refuses}
 use Rattle.fields.specs.Layout.{file_of}
-use Rattle.file.specs.Writer.{write_tests, out_fits, out_test, written_told, write_outcome, WriteOutcome, filled_from, write_of}
+use Rattle.file.specs.Writer.{write_tests, out_fits, out_test, written_told, write_outcome, WriteOutcome, filled_from, write_of, Written}
 use Rattle.file.specs.Inner.{Fit}
-use Rattle.file.specs.declared.Written.{Written}
 use Rattle.file.proofs.Fit.{fit}
 
 -- 14: where the file fits, and where it does not
@@ -29,27 +24,29 @@ out_held room start size e =
     let (a, b) = both_true _ _ e in
     (leb-true start room a, leb-true size (room - start) b)
 
-pub out_fits_lem : (room start size : ℕ) → start ≤ room → size ≤ room - start → out_test room start size ≡ Fine
+pub out_fits_lem : (room start size : ℕ) → start ≤ room → size ≤ room - start → out_test room start size ≡ fine
 unfolding out_test out_fits
 out_fits_lem room start size h l = test_fine OUT 0 (both _ _ (le-leb start room h) (le-leb size (room - start) l))
 
 module _ (n w k : ℕ) (O labels counts out : List ℕ) (start : ℕ) where
-  pub write_refused : {r : Refusal} → write_tests n w k O labels counts ≡ Refused r →
-      write_of n w k O labels counts out start ≡ write_outcome (Written.Refused r) out
+  pub write_refused : {a : Written} {r : Refusal} →
+      (write_tests n w k O labels counts then out_test (length out) start (length (file_of n w k O labels counts))) ≡ Err r →
+      a ≡ Err r → write_outcome a out ≡ write_of n w k O labels counts out start
   unfolding write_of filled_from
-  write_refused e = ap (λ (t : Verdict). filled_from t out start (file_of n w k O labels counts)) (after_refused _ e)
+  write_refused e f =
+      ap (λ (x : Written). write_outcome x out) f
+      ∙ sym (ap (λ (t : Verdict). filled_from t out start (file_of n w k O labels counts)) e)
 
-  pub write_out : {r : Refusal} → write_tests n w k O labels counts ≡ Fine →
-      out_test (length out) start (length (file_of n w k O labels counts)) ≡ Refused r →
-      write_of n w k O labels counts out start ≡ write_outcome (Written.Refused r) out
-  unfolding write_of filled_from
-  write_out e d = ap (λ (t : Verdict). filled_from t out start (file_of n w k O labels counts)) (after_fine _ e ∙ d)
+  pub write_out : {r : Refusal} → write_tests n w k O labels counts ≡ fine →
+      out_test (length out) start (length (file_of n w k O labels counts)) ≡ Err r →
+      write_of n w k O labels counts out start ≡ write_outcome (Err r) out
+  write_out e d = sym (write_refused (after_fine _ e ∙ d) refl)
 
-  pub write_filled : write_tests n w k O labels counts ≡ Fine →
-      out_test (length out) start (length (file_of n w k O labels counts)) ≡ Fine →
+  pub write_filled : write_tests n w k O labels counts ≡ fine →
+      out_test (length out) start (length (file_of n w k O labels counts)) ≡ fine →
       let file : List ℕ = file_of n w k O labels counts in
       write_of n w k O labels counts out start
-      ≡ write_outcome (Written.Bytes (length file)) (take start out ++ (file ++ drop (start + length file) out))
+      ≡ write_outcome (Ok (length file)) (take start out ++ (file ++ drop (start + length file) out))
   unfolding write_of filled_from
   write_filled e d = ap (λ (t : Verdict). filled_from t out start (file_of n w k O labels counts)) (after_fine _ e ∙ d)
 
@@ -61,21 +58,7 @@ put_back out file start m e =
 
 -- ---- what an answer tells
 
-filled_named : (v : Verdict) (out : List ℕ) (start : ℕ) (file : List ℕ) → Numbered v → Named Written.Refused (filled_from v out start file).answer
-unfolding filled_from
-filled_named Fine out start file h r e = let z : ◌≡◌ {A = ℕ} 0 1 = cc in absurd (omega arith)
-filled_named (Refused s) out start file h r e = h r cc
-
 module _ (n w k : ℕ) (O labels counts out : List ℕ) (start : ℕ) where
-  write_numbered : Numbered (write_tests n w k O labels counts then out_test (length out) start (length (file_of n w k O labels counts)))
-  unfolding write_tests order_test rows_test out_test
-  write_numbered =
-      then_numbered _ _
-      (then_numbered _ _ (test_numbered _ SIZE 0 (omega arith))
-      (then_numbered _ _ (test_numbered _ LENGTH 0 (omega arith))
-      (then_numbered _ _ (test_numbered _ ORDER _ (omega arith)) (test_numbered _ ROW _ (omega arith)))))
-      (test_numbered _ OUT 0 (omega arith))
-
   -- a call that filled bytes passed every test, and the stretch holds the file
   pub record Done (bytes : ℕ) (room : List ℕ) : Type 0 where
     pub fits : Fit n w k O labels counts
@@ -83,19 +66,19 @@ module _ (n w k : ℕ) (O labels counts out : List ℕ) (start : ℕ) where
     pub before : start ≤ length out
     pub holds : room ≡ take start out ++ (file_of n w k O labels counts ++ drop (start + length (file_of n w k O labels counts)) out)
 
-  out_start : out_test (length out) start (length (file_of n w k O labels counts)) ≡ Fine → start ≤ length out
+  out_start : out_test (length out) start (length (file_of n w k O labels counts)) ≡ fine → start ≤ length out
   unfolding out_test
   out_start e = (out_held _ _ _ (test_held _ OUT 0 e)).0
 
-  pub write_done : (bytes : ℕ) (room : List ℕ) → write_outcome (Written.Bytes bytes) room ≡ write_of n w k O labels counts out start → Done bytes room
+  pub write_done : (bytes : ℕ) (room : List ℕ) → write_outcome (Ok bytes) room ≡ write_of n w k O labels counts out start → Done bytes room
   unfolding written_told write_of filled_from
   write_done bytes room e =
       let file : List ℕ = file_of n w k O labels counts in
       vcase (write_tests n w k O labels counts then out_test (length out) start (length file))
       (λ f.
       let (a, b) = then_fine _ _ f in
-      let d : write_outcome (Written.Bytes bytes) room
-      ≡ write_outcome (Written.Bytes (length file)) (take start out ++ (file ++ drop (start + length file) out)) =
+      let d : write_outcome (Ok bytes) room
+      ≡ write_outcome (Ok (length file)) (take start out ++ (file ++ drop (start + length file) out)) =
       e ∙ write_filled n w k O labels counts out start a b in
       record {
         fits = fit n w k O labels counts a;
@@ -104,9 +87,8 @@ module _ (n w k : ℕ) (O labels counts out : List ℕ) (start : ℕ) where
         holds = ap (λ (t : WriteOutcome). t.room) d;
       })
       (λ r f.
-      let d : write_outcome (Written.Bytes bytes) room ≡ write_outcome (Written.Refused r) out = e ∙ ap (λ (t : Verdict). filled_from t out start file) f in
-      let z : 0 ≡ r.number = ap (λ (t : WriteOutcome). t.told.number) d in
-      absurd (omega (arith, write_numbered r f)))
+      let d : write_outcome (Ok bytes) room ≡ write_outcome (Err r) out = e ∙ ap (λ (t : Verdict). filled_from t out start file) f in
+      gives_refuses r 1 (ap (λ (t : WriteOutcome). t.told) d))
 
   -- what is then read from the stretch
   pub done_file : (bytes : ℕ) (room : List ℕ) → Done bytes room → take bytes (drop start room) ≡ file_of n w k O labels counts
@@ -123,14 +105,13 @@ module _ (n w k : ℕ) (O labels counts out : List ℕ) (start : ℕ) where
   write_same a b x y e f = (ap (λ (o : WriteOutcome). o.answer) (e ∙ sym f), ap (λ (o : WriteOutcome). o.room) (e ∙ sym f))
 
   -- every refusal of the writer has a number
-  pub write_named : Named Written.Refused (write_of n w k O labels counts out start).answer
-  unfolding write_of
-  write_named = filled_named _ out start _ write_numbered
+  pub write_named : Named Err (write_of n w k O labels counts out start).answer
+  write_named = named Err _
 
 -- answers with the same numbers are the same
-pub written_apart : (a b : Written) → Named Written.Refused a → Named Written.Refused b → written_told a ≡ written_told b → a ≡ b
+pub written_apart : (a b : Written) → written_told a ≡ written_told b → a ≡ b
 unfolding written_told
-written_apart (Written.Bytes m) (Written.Bytes l) p q e = ap (λ (vs : List ℕ). Written.Bytes (get_or vs 0 0)) (gives_apart e)
-written_apart (Written.Bytes m) (Written.Refused r) p q e = gives_refuses 1 (q r refl) e
-written_apart (Written.Refused r) (Written.Bytes l) p q e = gives_refuses 1 (p r refl) (sym e)
-written_apart (Written.Refused r) (Written.Refused s) p q e = ap Written.Refused (refuses_apart 1 e)
+written_apart (Ok m) (Ok l) e = ap {B = Written} (λ (vs : List ℕ). Ok (get_or vs 0 0)) (gives_apart e)
+written_apart (Ok m) (Err r) e = gives_refuses r 1 e
+written_apart (Err r) (Ok l) e = gives_refuses r 1 (sym e)
+written_apart (Err r) (Err s) e = ap {B = Written} Err (refuses_apart 1 e)

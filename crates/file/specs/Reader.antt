@@ -1,18 +1,25 @@
 -- The reader of the index file, in the paper's words: the tests in their order, each field at its first bit, and what the
 -- rooms hold afterwards. `s` is the byte string, n the frames and k the stop that its header gives, w the width of the call.
-use Rattle.std.specs.Prelude.{ℕ, zero, suc, ◌+◌, ◌*◌, ◌/◌, ◌%◌, Bool, cond, not, ◌&&◌, List, [], ◌∷◌, length, leb, ltb, eqb}
+use Rattle.refusal.specs.declared.Refusal.{Refusal}
+use Rattle.file.specs.declared.Index.{Index}
+use Rattle.std.specs.Prelude.{ℕ, zero, suc, ◌+◌, ◌*◌, ◌/◌, ◌%◌, Bool, cond, not, ◌&&◌, List, [], ◌∷◌, length, leb, ltb, eqb, Ok, Err, Result}
 use Rattle.basics.specs.Places.{table}
 use Rattle.refusal.specs.Numbers.{SIZE, LENGTH, ROOM, SHORT, VERSION, FIELD, LONG}
 use Rattle.refusal.specs.Sizes.{most_width, width_fits}
-use Rattle.refusal.specs.Tests.{test, ◌then◌, tests_from}
+use Rattle.refusal.specs.Tests.{test, ◌then◌, tests_from, Verdict}
 use Rattle.refusal.specs.Told.{Told, gives, refuses}
-use Rattle.refusal.specs.declared.Verdict.{Verdict}
 use Rattle.links.specs.Order.{faulty_rank}
 use Rattle.entry.specs.Entry.{entry_of}
-use Rattle.file.specs.declared.Opened.{Opened}
 use Rattle.fields.specs.Bits.{field_at, byte_len, pad_len}
 use Rattle.fields.specs.Layout.{version_bits, version_value, frames_bits, stop_bits, spare_bits, frame_bits, count_bits, rank_bits, joins_bits, entry_bits, frames_bit, stop_bit, spare_bit, order_bit, joins_bit, entry_bit}
 use Rattle.file.specs.Index.{lengths_fit}
+
+-- an index of n frames and stop k, or a refusal
+abbrev pub Opened : Type 0
+Opened = Result Index Refusal
+
+abbrev pub indexed : ℕ → ℕ → Opened
+indexed n k = Ok (record { n = n; k = k })
 
 -- ---- one field
 
@@ -115,8 +122,8 @@ read_test s w order labels counts =
 
 -- an index of n frames and stop k where the tests are fine, else their refusal
 unfoldable pub opened : Verdict → ℕ → ℕ → Opened
-opened Verdict.Fine n k = Opened.Index n k
-opened (Verdict.Refused r) n k = Opened.Refused r
+opened (Ok _) n k = indexed n k
+opened (Err r) n k = Err r
 
 -- the header alone: n and k, or the refusal
 unfoldable pub header_of : List ℕ → Opened
@@ -152,8 +159,8 @@ counts_read s n = table n (count_at s n)
 
 -- the paper's numbers: n and k
 unfoldable pub opened_told : Opened → Told
-opened_told (Opened.Index n k) = gives (n ∷ k ∷ [])
-opened_told (Opened.Refused r) = refuses r 2
+opened_told (Ok x) = gives (x.n ∷ x.k ∷ [])
+opened_told (Err r) = refuses r 2
 
 -- what comes back, also in the paper's numbers, and what the three rooms then hold
 pub record ReadOutcome : Type 0 where
@@ -170,15 +177,15 @@ read_outcome answer order labels counts =
 -- the index that a file gives: n and k, and the rooms filled
 abbrev pub index_read : List ℕ → ℕ → ReadOutcome
 index_read s w =
-    read_outcome (Opened.Index (frames_of s) (stop_of s))
+    read_outcome (indexed (frames_of s) (stop_of s))
     (order_read s (frames_of s))
     (labels_read s (frames_of s) w)
     (counts_read s (frames_of s))
 
 -- the rooms filled where the tests are fine, else as lent
 unfoldable pub filled_in : Verdict → List ℕ → ℕ → List ℕ → List ℕ → List ℕ → ReadOutcome
-filled_in Verdict.Fine s w order labels counts = index_read s w
-filled_in (Verdict.Refused r) s w order labels counts = read_outcome (Opened.Refused r) order labels counts
+filled_in (Ok _) s w order labels counts = index_read s w
+filled_in (Err r) s w order labels counts = read_outcome (Err r) order labels counts
 
 -- the reader
 unfoldable pub read_of : List ℕ → ℕ → List ℕ → List ℕ → List ℕ → ReadOutcome

@@ -1,16 +1,19 @@
 -- The writer of the index file, in the paper's words: the tests in their order, and what the output room holds afterwards.
 -- n frames, width w, stop k, order O, label room and count room; the file goes into the output room from byte `start` on.
-use Rattle.std.specs.Prelude.{ℕ, ◌+◌, ◌-◌, Bool, ◌&&◌, List, [], ◌∷◌, ◌++◌, length, take, drop, leb}
+use Rattle.refusal.specs.declared.Refusal.{Refusal}
+use Rattle.std.specs.Prelude.{ℕ, ◌+◌, ◌-◌, Bool, ◌&&◌, List, [], ◌∷◌, ◌++◌, length, take, drop, leb, Ok, Err, Result}
 use Rattle.refusal.specs.Numbers.{SIZE, LENGTH, OUT}
 use Rattle.refusal.specs.Sizes.{sizes_fit}
-use Rattle.refusal.specs.Tests.{test, ◌then◌}
+use Rattle.refusal.specs.Tests.{test, ◌then◌, Verdict}
 use Rattle.refusal.specs.Told.{Told, gives, refuses}
-use Rattle.refusal.specs.declared.Verdict.{Verdict}
 use Rattle.links.specs.Order.{order_test}
 use Rattle.rows.specs.Rooms.{rows_test}
-use Rattle.file.specs.declared.Written.{Written}
 use Rattle.fields.specs.Layout.{file_of}
 use Rattle.file.specs.Index.{lengths_fit}
+
+-- the bytes filled, or a refusal
+abbrev pub Written : Type 0
+Written = Result ℕ Refusal
 
 -- n from 1 to 4,096, W from 1 to 256, k from 0 to n
 unfoldable pub index_sizes : ℕ → ℕ → ℕ → Bool
@@ -34,8 +37,8 @@ out_test room start size = test (out_fits room start size) OUT 0
 
 -- the paper's numbers: the bytes filled
 unfoldable pub written_told : Written → Told
-written_told (Written.Bytes filled) = gives (filled ∷ [])
-written_told (Written.Refused r) = refuses r 1
+written_told (Ok filled) = gives (filled ∷ [])
+written_told (Err r) = refuses r 1
 
 -- what comes back, also in the paper's numbers, and what the output room then holds
 pub record WriteOutcome : Type 0 where
@@ -48,9 +51,9 @@ write_outcome answer room = record { answer = answer; told = written_told answer
 
 -- the file fills a stretch of the room from `start` on, bytes outside it stay; as lent where the tests refuse
 unfoldable pub filled_from : Verdict → List ℕ → ℕ → List ℕ → WriteOutcome
-filled_from Verdict.Fine out start file =
-    write_outcome (Written.Bytes (length file)) (take start out ++ (file ++ drop (start + length file) out))
-filled_from (Verdict.Refused r) out start file = write_outcome (Written.Refused r) out
+filled_from (Ok _) out start file =
+    write_outcome (Ok (length file)) (take start out ++ (file ++ drop (start + length file) out))
+filled_from (Err r) out start file = write_outcome (Err r) out
 
 -- the writer
 unfoldable pub write_of : ℕ → ℕ → ℕ → List ℕ → List ℕ → List ℕ → List ℕ → ℕ → WriteOutcome

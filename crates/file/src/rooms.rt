@@ -7,11 +7,5 @@ pub fn lengths_fit(n: usize, w: usize, order: usize, labels: usize, counts: usiz
     requires { (n ≤ 4096) × (w ≤ 256) }
     ensures { result ≡ lengths_fit n w order labels counts }
 {
-    if order != n {
-        return false;
-    }
-    if labels != n * w {
-        return false;
-    }
-    counts == n
+    order == n && labels == n * w && counts == n
 }

@@ -1,92 +1,68 @@
 // The rooms filled from a file whose tests are fine: fields are read again and stored, and unused places get 0.
-ghost use Rattle.std.specs.Prelude.{◌+◌, ◌-◌, ◌*◌, ◌^◌, ◌≤◌, ◌<◌, ◌≡◌, length, set};
+ghost use Rattle.std.specs.Prelude.{◌+◌, ◌*◌, ◌^◌, ◌≤◌, ◌<◌, ◌≡◌, length};
+ghost use Rattle.basics.specs.Places.{table};
 ghost use Rattle.fields.specs.Bits.{byte_len};
 ghost use Rattle.fields.specs.Layout.{entry_bits};
-ghost use Rattle.file.specs.Reader.{frame_at, entry_at, count_at, label_at};
-ghost use Rattle.file.specs.Inner.{filled, entry_from, cell_at, nought, EntriesThere, RowThere, OrderThere, RowsThere};
+ghost use Rattle.file.specs.Reader.{entry_at, cell_of, order_read, labels_read, counts_read};
+ghost use Rattle.file.specs.Inner.{EntriesThere, RowThere, OrderThere, RowsThere};
 
 use entry::{Entry, entry_of};
 use fields::{get, widths};
 
 // The order.
-pub fn order(bytes: &[u8], n: usize, order: &mut [u32])
-    requires { OrderThere bytes.now n (length order.old) }
-    ensures { order.new ≡ filled (frame_at bytes.now) order.old 0 n }
+pub fn order(bytes: &[u8], order: &mut [u32])
+    requires { OrderThere bytes.now (length order.old) }
+    ensures { order.new ≡ order_read bytes.now (length order.old) }
 {
-    let mut r: usize = 0;
-    while r < n {
-        let p = widths::HEADER_BITS + widths::FRAME_BITS * r;
-        let frame = get::get(bytes, p, widths::FRAME_BITS);
-        order[r] = frame as u32;
-        r += 1;
+    for (r, place) in order.iter_mut().enumerate() {
+        *place = get::get(
+            bytes,
+            widths::HEADER_BITS + widths::FRAME_BITS * r,
+            widths::FRAME_BITS,
+        ) as u32;
     }
 }
 
-// The entry at bit p, stored at place `at`.
-pub fn entry(bytes: &[u8], p: usize, labels: &mut [Entry], at: usize)
-    requires { (p < 2 ^ 30) × (byte_len (p + entry_bits) ≤ length bytes.now) × (at < length labels.old) }
-    ensures { labels.new ≡ set labels.old at (entry_at bytes.now p) }
+// The entry at bit p.
+pub fn entry(bytes: &[u8], p: usize) -> Entry
+    requires { (p < 2 ^ 30) × (byte_len (p + entry_bits) ≤ length bytes.now) }
+    ensures { result ≡ entry_at bytes.now p }
 {
     let both = get::both(bytes, p);
-    let rank = both / widths::JOINS_VALUES;
-    let joins = both % widths::JOINS_VALUES;
-    labels[at] = entry_of(rank, joins);
+    entry_of(both / widths::JOINS_VALUES, both % widths::JOINS_VALUES)
 }
 
-// `count` entries from bit p on, stored from place `base` on.
-pub fn entries(bytes: &[u8], p: usize, count: usize, labels: &mut [Entry], base: usize)
-    requires { EntriesThere bytes.now p count (length labels.old) base }
-    ensures { labels.new
-        ≡ filled (entry_from bytes.now p base) labels.old base count }
+// Entries from bit p on, one for each of these places.
+pub fn entries(bytes: &[u8], p: usize, places: &mut [Entry])
+    requires { EntriesThere bytes.now p (length places.old) }
+    ensures { places.new ≡ table (length places.old) (λ i. entry_at bytes.now (p + entry_bits * i)) }
 {
-    let end = base + count;
-    let mut bit = p;
-    let mut at = base;
-    while at < end {
-        entry(bytes, bit, labels, at);
-        bit += widths::ENTRY_BITS;
-        at += 1;
+    for (i, place) in places.iter_mut().enumerate() {
+        *place = entry(bytes, p + widths::ENTRY_BITS * i);
     }
 }
 
-// 0 in the places from `base` up to `end`.
-pub fn clear(labels: &mut [Entry], base: usize, end: usize)
-    requires { (base ≤ end) × (end ≤ length labels.old) }
-    ensures { labels.new ≡ filled nought labels.old base (end - base) }
+// The row of `count` entries at bit p: its entries, then 0.
+pub fn row(bytes: &[u8], p: usize, count: usize, row: &mut [Entry])
+    requires { RowThere bytes.now p count (length row.old) }
+    ensures { row.new ≡ table (length row.old) (cell_of bytes.now p count) }
 {
-    let mut at = base;
-    while at < end {
-        labels[at] = 0;
-        at += 1;
-    }
-}
-
-// The row of `count` entries at bit p, stored from place `base` on: its entries, then 0 up to W places.
-pub fn row(bytes: &[u8], p: usize, count: usize, w: usize, labels: &mut [Entry], base: usize)
-    requires { RowThere bytes.now p count w (length labels.old) base }
-    ensures { labels.new
-        ≡ filled (cell_at bytes.now p count base) labels.old base w }
-{
-    entries(bytes, p + widths::COUNT_BITS, count, labels, base);
-    clear(labels, base + count, base + w);
+    let (used, unused) = row.split_at_mut(count);
+    entries(bytes, p + widths::COUNT_BITS, used);
+    unused.fill(0);
 }
 
 // All rows and their counts.
-pub fn rows(bytes: &[u8], n: usize, w: usize, labels: &mut [Entry], counts: &mut [u32])
-    requires { RowsThere bytes.now n w (length labels.old) (length counts.old) }
-    ensures labels { labels.new
-        ≡ filled (label_at bytes.now n w) labels.old 0 (n * w) }
-    ensures counts { counts.new ≡ filled (count_at bytes.now n) counts.old 0 n }
+pub fn rows(bytes: &[u8], w: usize, labels: &mut [Entry], counts: &mut [u32])
+    requires { RowsThere bytes.now (length counts.old) w (length labels.old) }
+    ensures labels { labels.new ≡ labels_read bytes.now (length counts.old) w }
+    ensures counts { counts.new ≡ counts_read bytes.now (length counts.old) }
 {
-    let mut p = widths::HEADER_BITS + widths::FRAME_BITS * n;
-    let mut base: usize = 0;
-    let mut v: usize = 0;
-    while v < n {
+    let mut p = widths::HEADER_BITS + widths::FRAME_BITS * counts.len();
+    for (v, place) in counts.iter_mut().enumerate() {
         let count = get::get(bytes, p, widths::COUNT_BITS);
-        counts[v] = count as u32;
-        row(bytes, p, count, w, labels, base);
-        p = p + widths::COUNT_BITS + widths::ENTRY_BITS * count;
-        base += w;
-        v += 1;
+        *place = count as u32;
+        row(bytes, p, count, &mut labels[v * w..(v + 1) * w]);
+        p += widths::COUNT_BITS + widths::ENTRY_BITS * count;
     }
 }

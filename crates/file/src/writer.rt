@@ -1,100 +1,90 @@
 // The parts of the writer: the tests that stand before it, the bytes that the file has, and the file put into a stretch
 // that is just as long.
-ghost use Rattle.std.specs.Prelude.{◌≡◌, ◌≤◌, length};
-ghost use Rattle.basics.specs.Places.{sum};
-ghost use Rattle.fields.specs.Layout.{file_of, file_size};
-ghost use Rattle.file.specs.Writer.{index_sizes, write_tests, out_fits};
-ghost use Rattle.file.specs.Inner.{Fit};
+ghost use Rattle.std.specs.Prelude.{◌≡◌};
+ghost use Rattle.file.specs.Writer.{index_sizes, out_fits};
 
 use crate::rooms;
 use entry::Entry;
 use fields::put::Pen;
-use fields::{put, widths};
-use links;
-use refusal;
-use refusal::Verdict;
-use rows::check;
+use fields::widths;
+use links::check_order;
+use refusal::sizes::sizes_fit;
+use refusal::{Reason, Refusal, test};
+use rows::check::check_rows;
 use rows::rooms::total;
 
 // Whether n, W and k are in range.
 pub fn index_sizes(n: usize, w: usize, k: usize) -> bool
     ensures { result ≡ index_sizes n w k }
 {
-    let sizes = refusal::sizes::sizes_fit(n, w);
-    if !sizes {
-        return false;
-    }
-    k <= n
-}
-
-// The tests on the index: 1, 2, 5, and 9 with the bound k.
-pub fn tests(
-    n: usize,
-    w: usize,
-    k: usize,
-    order: &[u32],
-    labels: &[Entry],
-    counts: &[u32],
-) -> Verdict
-    ensures { result ≡ write_tests n w k order.now labels.now counts.now }
-{
-    let sizes = index_sizes(n, w, k);
-    if !sizes {
-        return refusal::refused(refusal::SIZE, 0);
-    }
-    let lengths = rooms::lengths_fit(n, w, order.len(), labels.len(), counts.len());
-    if !lengths {
-        return refusal::refused(refusal::LENGTH, 0);
-    }
-    let once = links::check_order(n, order);
-    let Verdict::Fine = once else {
-        return once;
-    };
-    check::check_rows(n, w, k, labels, counts)
+    sizes_fit(n, w) && k <= n
 }
 
 // Whether an output room has the file's bytes from `start` on.
 pub fn out_fits(room: usize, start: usize, size: usize) -> bool
     ensures { result ≡ out_fits room start size }
 {
-    if room < start {
-        return false;
+    start <= room && size <= room - start
+}
+
+// An index as it lies in the rooms lent.
+#[derive(Clone, Copy)]
+pub struct Lent<'a> {
+    pub n: usize,
+    pub w: usize,
+    pub k: usize,
+    pub order: &'a [u32],
+    pub labels: &'a [Entry],
+    pub counts: &'a [u32],
+}
+
+impl Lent<'_> {
+    ghost use Rattle.std.specs.Prelude.{◌≡◌, ◌≤◌, length};
+    ghost use Rattle.basics.specs.Places.{sum};
+    ghost use Rattle.fields.specs.Layout.{file_of, file_size};
+    ghost use Rattle.file.specs.Writer.{write_tests};
+    ghost use Rattle.file.specs.Inner.{Fit};
+
+    // The tests on the index: 1, 2, 5, and 9 with the bound k.
+    pub fn tests(self) -> Result<(), Refusal>
+        ensures { result
+            ≡ write_tests self.entry.n self.entry.w self.entry.k self.entry.order.now self.entry.labels.now
+            self.entry.counts.now }
+    {
+        test(index_sizes(self.n, self.w, self.k), Reason::Size, 0)?;
+        let lengths = rooms::lengths_fit(
+            self.n,
+            self.w,
+            self.order.len(),
+            self.labels.len(),
+            self.counts.len(),
+        );
+        test(lengths, Reason::Length, 0)?;
+        check_order(self.n, self.order)?;
+        check_rows(self.n, self.w, self.k, self.labels, self.counts)
     }
-    size <= room - start
-}
 
-// The bytes that the file has: 4 for the header, and 21 bits for each frame and 24 for each entry, rounded up.
-pub fn size(n: usize, counts: &[u32]) -> usize
-    requires { (n ≤ 4096) × (length counts.now ≤ 4096) }
-    ensures { result ≡ file_size n (sum counts.now) }
-{
-    let entries = total(counts);
-    let bits = widths::EACH_FRAME_BITS * n + widths::ENTRY_BITS * entries;
-    widths::HEADER_BYTES + (bits + 7) / 8
-}
+    // The bytes that the file has: 4 for the header, and 21 bits for each frame and 24 for each entry, rounded up.
+    pub fn size(self) -> usize
+        requires { (self.n ≤ 4096) × (length self.counts.now ≤ 4096) }
+        ensures { result ≡ file_size self.entry.n (sum self.entry.counts.now) }
+    {
+        let bits = widths::EACH_FRAME_BITS * self.n + widths::ENTRY_BITS * total(self.counts);
+        widths::HEADER_BYTES + (bits + 7) / 8
+    }
 
-// Puts the whole file into a stretch of just its length.
-pub fn fill(
-    out: &mut [u8],
-    n: usize,
-    w: usize,
-    k: usize,
-    order: &[u32],
-    labels: &[Entry],
-    counts: &[u32],
-)
-    requires { Fit n w k order.now labels.now counts.now
-        × (length out.old ≡ length (file_of n w k order.now labels.now counts.now)) }
-    ensures { out.new
-        ≡ file_of n w k order.now labels.now counts.now }
-{
-    let pen = Pen {
-        at: 0,
-        acc: 0,
-        nb: 0,
-    };
-    let headed = put::put_header(out, pen, n, k);
-    let ordered = put::put_order(out, headed, order);
-    let done = put::put_rows(out, ordered, n, w, labels, counts);
-    put::close(out, done);
+    // Puts the whole file into a stretch of just its length.
+    pub fn fill(self, out: &mut [u8])
+        requires { Fit self.n self.w self.k self.order.now self.labels.now self.counts.now
+            × (length out.old ≡ length (file_of self.n self.w self.k self.order.now self.labels.now self.counts.now)) }
+        ensures { out.new
+            ≡ file_of self.entry.n self.entry.w self.entry.k self.entry.order.now self.entry.labels.now
+            self.entry.counts.now }
+    {
+        let mut pen = Pen::new(out);
+        pen.put_header(self.n, self.k);
+        pen.put_order(self.order);
+        pen.put_rows(self.n, self.w, self.labels, self.counts);
+        pen.close();
+    }
 }

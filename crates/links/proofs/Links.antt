@@ -1,5 +1,6 @@
 -- The tests on a block of links: that sizes and lengths tested first leave tests 3 and 4, that these passed give what the
 -- theory asks of a block, and that such a block passes.
+use Rattle.std.specs.Prelude.{Err}
 use Prim.Native.Nat.{ℕ, ◌+◌, ◌-◌, ◌≤◌, ◌<◌}
 use mathlib.Core.Path.{◌≡◌, refl, sym, ap, ◌∙◌}
 use mathlib.Core.Bool.{Bool, true, false, not, ◌||◌, ◌&&◌, and-false, or-true}
@@ -12,8 +13,7 @@ use Rattle.basics.specs.Places.{first, some}
 use Rattle.basics.proofs.Laws.{lt_or_ge, both, both_true, either_false, either_right, neither, not_of_true, not_of_false, cond_true, cond_false, never_falls, some_none, some_one, some_found, some_not, some_first, none_first}
 use Rattle.refusal.specs.Numbers.{SIZE, LENGTH, STARTS, LINKS}
 use Rattle.refusal.specs.Sizes.{frames_fit, places_fit}
-use Rattle.refusal.specs.Tests.{test, ◌then◌, refusal}
-use Rattle.refusal.specs.declared.Verdict.TheVariants.{Fine, Refused}
+use Rattle.refusal.specs.Tests.{test, ◌then◌, refusal, fine}
 use Rattle.refusal.proofs.Laws.{test_fine, test_refused, test_held, after_fine, after_refused, then_fine, lowest_fine, lowest_refused, lowest_none, none_lowest}
 use Rattle.refusal.proofs.SizeLaws.{frames_fit_lem, frames_held, places_fit_lem, places_held}
 use Rattle.theory.specs.Links.{Block, Link}
@@ -29,17 +29,17 @@ pub sizes_in : (n : ℕ) (S L : List ℕ) → frames_fit n && places_fit (length
 unfolding sizes_test
 sizes_in n S L e = after_fine _ (test_fine _ _ e)
 
-pub sizes_out : (n : ℕ) (S L : List ℕ) → frames_fit n && places_fit (length L) ≡ false → sizes_test n S L ≡ Refused (refusal SIZE 0)
+pub sizes_out : (n : ℕ) (S L : List ℕ) → frames_fit n && places_fit (length L) ≡ false → sizes_test n S L ≡ Err (refusal SIZE 0)
 unfolding sizes_test
 sizes_out n S L e = after_refused _ (test_refused _ _ e)
 
 -- sizes and lengths that fit pass tests 1 and 2, and no others do
-pub sizes_pass : (n : ℕ) (S L : List ℕ) → Fits n S L → sizes_test n S L ≡ Fine
+pub sizes_pass : (n : ℕ) (S L : List ℕ) → Fits n S L → sizes_test n S L ≡ fine
 sizes_pass n S L f =
     sizes_in n S L (both _ _ (frames_fit_lem n f.one f.frames) (places_fit_lem (length L) f.places))
     ∙ test_fine _ _ (eq-eqb (length S) (n + 1) f.long)
 
-pub sizes_held : (n : ℕ) (S L : List ℕ) → sizes_test n S L ≡ Fine → Fits n S L
+pub sizes_held : (n : ℕ) (S L : List ℕ) → sizes_test n S L ≡ fine → Fits n S L
 unfolding sizes_test
 sizes_held n S L fine =
     let (sizes, long) = then_fine _ _ fine in
@@ -74,23 +74,23 @@ starts_last n S L front e = rw (eq-eqb (get_or S 0 0) 0 front, e) refl
 
 -- ---- tests 3 and 4 in a row
 
-pub right_starts : (n : ℕ) (S L : List ℕ) → starts_test n S L ≡ Fine → starts_right n S L ≡ true
+pub right_starts : (n : ℕ) (S L : List ℕ) → starts_test n S L ≡ fine → starts_right n S L ≡ true
 unfolding starts_test
 right_starts n S L fine = test_held _ _ _ fine
 
 pub tests_starts : (n : ℕ) (S L : List ℕ) → starts_right n S L ≡ false
-    → (starts_test n S L then lists_test n S L) ≡ Refused (refusal STARTS 0)
+    → (starts_test n S L then lists_test n S L) ≡ Err (refusal STARTS 0)
 unfolding starts_test
 tests_starts n S L e = after_refused _ (test_refused _ _ e)
 
 pub tests_lists : (n : ℕ) (S L : List ℕ) (v : ℕ) → starts_right n S L ≡ true → v ≡ first (faulty_list n S L) 0 n
-    → (v ≡ n → ⊥) → (starts_test n S L then lists_test n S L) ≡ Refused (refusal LINKS v)
+    → (v ≡ n → ⊥) → (starts_test n S L then lists_test n S L) ≡ Err (refusal LINKS v)
 unfolding starts_test lists_test
 tests_lists n S L v e here other =
     after_fine _ (test_fine _ _ e) ∙ lowest_refused _ n LINKS here other
 
 pub tests_fine : (n : ℕ) (S L : List ℕ) (v : ℕ) → starts_right n S L ≡ true → v ≡ first (faulty_list n S L) 0 n
-    → v ≡ n → (starts_test n S L then lists_test n S L) ≡ Fine
+    → v ≡ n → (starts_test n S L then lists_test n S L) ≡ fine
 unfolding starts_test lists_test
 tests_fine n S L v e here whole =
     after_fine _ (test_fine _ _ e) ∙ lowest_fine _ n LINKS here whole
@@ -221,7 +221,7 @@ link_sound n S L v i fine =
     }
 
 -- test 4 passed leaves no faulty link
-pub lists_sound : (n : ℕ) (S L : List ℕ) → lists_test n S L ≡ Fine → (v i : ℕ) → v < n → get_or S v 0 ≤ i
+pub lists_sound : (n : ℕ) (S L : List ℕ) → lists_test n S L ≡ fine → (v i : ℕ) → v < n → get_or S v 0 ≤ i
     → i < get_or S (v + 1) 0 → Sound n S L v i
 unfolding lists_test faulty_list degree
 lists_sound n S L fine v i h low high =
@@ -236,7 +236,7 @@ holds_link S L w v e =
     record { at = i; from = low; upto = omega arith; holds = eqb-true _ _ there; costs = refl }
 
 -- tests 3 and 4 passed give a block
-pub links_sound : (n : ℕ) (S L : List ℕ) → Fits n S L → starts_test n S L ≡ Fine → lists_test n S L ≡ Fine
+pub links_sound : (n : ℕ) (S L : List ℕ) → Fits n S L → starts_test n S L ≡ fine → lists_test n S L ≡ fine
     → Block n 1 S L ones
 links_sound n S L fits starts lists =
     let s : Starts n S L = starts_kept n S L (right_starts n S L starts) fits in
@@ -295,7 +295,7 @@ module _ {n : ℕ} (S L : List ℕ) (b : Block n 1 S L ones) where
       (holds_at_lem S L w v m.at m.from m.upto m.holds)
 
   -- a block whose sizes fit passes check links
-  pub links_whole : n ≤ 4096 → length L ≤ 65536 → check_links n S L ≡ Fine
+  pub links_whole : n ≤ 4096 → length L ≤ 65536 → check_links n S L ≡ fine
   unfolding starts_test lists_test faulty_list degree
   links_whole most room =
       links_alone n S L record { one = b.some; frames = most; places = room; long = b.long }

@@ -1,5 +1,6 @@
 -- What the scan of the lists keeps: the inner loop that whether v's list is faulty is decided from the present place on, the
 -- outer one that the lowest faulty frame lies from v on.
+use Rattle.refusal.specs.Tests.{fine}
 use Prim.Native.Nat.{ℕ, ◌+◌, ◌-◌, ◌≤◌, ◌<◌}
 use mathlib.Core.Path.{◌≡◌, refl, sym, ap, ◌∙◌}
 use mathlib.Core.Bool.{Bool, true, false}
@@ -29,12 +30,12 @@ pub record Links (n : ℕ) (S L C : List ℕ) (v i floor : ℕ) : Type 0 where
 
 module _ {n : ℕ} {S L C : List ℕ} {v : ℕ} where
   -- no link of v's list passed yet
-  pub links_first : Starts n S L → Frames n S L C v → v < n → Links n S L C v (get_or S v 0) 0
+  pub links_first : Starts n S L → Cursors S C → v < n → Links n S L C v (get_or S v 0) 0
   unfolding faulty_list degree
-  links_first s f h = record {
+  links_first s kept h = record {
     from = omega arith;
     upto = s.rise v h;
-    cursors = f.cursors;
+    cursors = kept;
     least = sym (floor_front S L v (get_or S v 0) (omega arith));
     rest = refl;
   }
@@ -75,8 +76,8 @@ module _ {n : ℕ} {S L C : List ℕ} {v : ℕ} where
   frames_stop s h bad = sym (first_here _ _ _ h bad) ∙ s.rest
 
   -- all lists passed
-  pub frames_end : Frames n S L C v → n ≤ v → v ≡ first (faulty_list n S L) 0 n
-  frames_end s h = sym (first_over _ _ _ h) ∙ s.rest
+  pub frames_end : Frames n S L C v → n ≤ v → n ≡ first (faulty_list n S L) 0 n
+  frames_end s h = let last : n ≡ v = omega (arith, s.upto) in last ∙ sym (first_over _ _ _ h) ∙ s.rest
 
 -- no list passed yet
 pub frames_first : {n : ℕ} (S L : List ℕ) {C : List ℕ} → Cursors S C → Frames n S L C 0

@@ -1,5 +1,6 @@
 -- The order's test: what a pass over the ranks keeps, that sizes and lengths tested first leave the test itself, and that
 -- the test is passed exactly by each frame once.
+use Rattle.std.specs.Prelude.{Err}
 use Prim.Native.Nat.{ℕ, ◌+◌, ◌-◌, ◌≤◌, ◌<◌}
 use mathlib.Core.Path.{◌≡◌, refl, sym, ap, ◌∙◌}
 use mathlib.Core.Bool.{Bool, true, false}
@@ -12,8 +13,7 @@ use borrow.Author.Tests.{le-leb, lt-leb, eq-eqb, ne_eqb, leb-false}
 use Rattle.basics.specs.Places.{first, stands}
 use Rattle.basics.proofs.Laws.{not_both, either_false, either_left, either_right, neither, first_here, first_step, first_over, stands_at, stands_not, stands_none, stands_other, at_set}
 use Rattle.refusal.specs.Numbers.{SIZE, LENGTH, ORDER}
-use Rattle.refusal.specs.Tests.{refusal}
-use Rattle.refusal.specs.declared.Verdict.TheVariants.{Fine, Refused}
+use Rattle.refusal.specs.Tests.{refusal, fine}
 use Rattle.refusal.proofs.Laws.{test_fine, test_refused, after_fine, after_refused, lowest_fine, lowest_refused, lowest_none, none_lowest}
 use Rattle.theory.specs.Links.{Order, hub_of}
 use Rattle.refusal.specs.Sizes.{frames_fit}
@@ -29,11 +29,11 @@ unfolding check_order
 order_alone n O one most long =
     after_fine _ (test_fine _ _ (frames_fit_lem n one most)) ∙ after_fine _ (test_fine _ _ (eq-eqb (length O) n long))
 
-pub order_unfit : (n : ℕ) (O : List ℕ) → frames_fit n ≡ false → check_order n O ≡ Refused (refusal SIZE 0)
+pub order_unfit : (n : ℕ) (O : List ℕ) → frames_fit n ≡ false → check_order n O ≡ Err (refusal SIZE 0)
 unfolding check_order
 order_unfit n O e = after_refused _ (test_refused _ _ e)
 
-pub order_length : (n : ℕ) (O : List ℕ) → frames_fit n ≡ true → (length O ≡ n → ⊥) → check_order n O ≡ Refused (refusal LENGTH 0)
+pub order_length : (n : ℕ) (O : List ℕ) → frames_fit n ≡ true → (length O ≡ n → ⊥) → check_order n O ≡ Err (refusal LENGTH 0)
 unfolding check_order
 order_length n O fits other =
     after_fine _ (test_fine _ _ fits)
@@ -92,13 +92,13 @@ pub record Passed (n : ℕ) (O : List ℕ) (seen : List Bool) (r : ℕ) : Type 0
 
 module _ {n : ℕ} {O : List ℕ} {seen : List Bool} {r : ℕ} (s : Passed n O seen r) where
   -- a faulty rank is the lowest
-  pub passed_stop : r < n → faulty_rank n (hub_of O) r ≡ true → order_test n O ≡ Refused (refusal ORDER r)
+  pub passed_stop : r < n → faulty_rank n (hub_of O) r ≡ true → order_test n O ≡ Err (refusal ORDER r)
   unfolding order_test
   passed_stop h bad = lowest_refused _ n ORDER (sym (first_here _ r n h bad) ∙ s.rest) (λ e. omega arith)
 
   -- a frame seen before makes a faulty rank
   pub passed_twice : n ≤ 4096 → r < n → hub_of O r < n → get_or seen (hub_of O r) false ≡ true
-      → order_test n O ≡ Refused (refusal ORDER r)
+      → order_test n O ≡ Err (refusal ORDER r)
   passed_twice most h low old =
       passed_stop h (rank_again n (hub_of O) r (seen_says s.flags refl (omega arith) old))
 
@@ -115,7 +115,7 @@ module _ {n : ℕ} {O : List ℕ} {seen : List Bool} {r : ℕ} (s : Passed n O s
   }
 
   -- all ranks passed
-  pub passed_end : n ≤ r → order_test n O ≡ Fine
+  pub passed_end : n ≤ r → order_test n O ≡ fine
   unfolding order_test
   passed_end h = lowest_fine _ n ORDER (sym (first_over _ r n h) ∙ s.rest) (omega (arith, s.upto))
 
@@ -125,7 +125,7 @@ passed_first n O = record { upto = omega arith; flags = seen_none (hub_of O); re
 
 -- ---- a passed test
 
-pub order_sound : (n : ℕ) (O : List ℕ) → order_test n O ≡ Fine → length O ≡ n → Order n O
+pub order_sound : (n : ℕ) (O : List ℕ) → order_test n O ≡ fine → length O ≡ n → Order n O
 unfolding order_test
 order_sound n O fine long =
     let f : ℕ → ℕ = hub_of O in
@@ -137,7 +137,7 @@ order_sound n O fine long =
     }
 
 -- an order passes its test
-pub order_passes : (n : ℕ) (O : List ℕ) → Order n O → order_test n O ≡ Fine
+pub order_passes : (n : ℕ) (O : List ℕ) → Order n O → order_test n O ≡ fine
 unfolding order_test
 order_passes n O o =
     let f : ℕ → ℕ = hub_of O in
@@ -145,5 +145,5 @@ order_passes n O o =
     (λ r h. rank_sound n f r (o.inside r h) (stands_not f r (f r) (λ j l. o.once j r l h)))
 
 -- and, where n fits, check order
-pub order_whole : (n : ℕ) (O : List ℕ) → Order n O → 1 ≤ n → n ≤ 4096 → check_order n O ≡ Fine
+pub order_whole : (n : ℕ) (O : List ℕ) → Order n O → 1 ≤ n → n ≤ 4096 → check_order n O ≡ fine
 order_whole n O o one most = order_alone n O one most o.long ∙ order_passes n O o

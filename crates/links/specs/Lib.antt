@@ -1,3 +1,4 @@
 pub mod Links
 pub mod Order
 pub mod Inner
+pub mod Ties

@@ -3,8 +3,7 @@ use Rattle.std.specs.Prelude.{ℕ, ◌+◌, ◌-◌, Bool, not, ◌&&◌, ◌||�
 use Rattle.basics.specs.Places.{some}
 use Rattle.refusal.specs.Numbers.{SIZE, LENGTH, STARTS, LINKS}
 use Rattle.refusal.specs.Sizes.{frames_fit, places_fit}
-use Rattle.refusal.specs.Tests.{test, ◌then◌, lowest_test}
-use Rattle.refusal.specs.declared.Verdict.{Verdict}
+use Rattle.refusal.specs.Tests.{test, ◌then◌, lowest_test, Verdict}
 
 -- the start position behind frame v falls
 abbrev pub falls : List ℕ → ℕ → Bool

@@ -7,7 +7,7 @@ ghost use Rattle.refusal.specs.Tests.{◌then◌};
 ghost use Rattle.links.specs.Links.{starts_right, holds, faulty_list, starts_test, lists_test};
 ghost use Rattle.links.specs.Inner.{Fits, Starts, ListIn, Cursors, faulty_from};
 
-use refusal::Verdict;
+use refusal::{Reason, Refusal, test};
 
 // Whether the start positions keep their rule.
 pub fn starts_right(n: usize, starts: &[u32], places: &[u32]) -> bool
@@ -17,13 +17,11 @@ pub fn starts_right(n: usize, starts: &[u32], places: &[u32]) -> bool
     if starts[0] != 0 {
         return false;
     }
-    let mut v: usize = 0;
-    while v < n {
+    for v in 0..n {
         let next = v + 1;
         if starts[next] < starts[v] {
             return false;
         }
-        v += 1;
     }
     let last = starts[n] as usize;
     last == places.len()
@@ -34,15 +32,13 @@ pub fn find(places: &[u32], from: usize, end: usize, v: usize) -> usize
     requires { (from ≤ end) × (end ≤ length places.now) }
     ensures { result ≡ first (λ i. eqb (get_or places.now i 0) v) from (end - from) }
 {
-    let mut at = from;
-    while at < end {
+    for at in from..end {
         let u = places[at] as usize;
         if u == v {
             return at;
         }
-        at += 1;
     }
-    at
+    end
 }
 
 // A cursor for each frame, at its list's start.
@@ -50,11 +46,7 @@ pub fn set_cursors(n: usize, starts: &[u32], cursors: &mut [u32])
     requires { (n ≤ 4096) × (length starts.now ≡ n + 1) × (length cursors.old ≡ 4096) }
     ensures { Cursors starts.now cursors.new }
 {
-    let mut w: usize = 0;
-    while w < n {
-        cursors[w] = starts[w];
-        w += 1;
-    }
+    cursors[..n].copy_from_slice(&starts[..n]);
 }
 
 // Whether the list of w holds v. A guess that is right moves the cursor on, a search sets it anew.
@@ -105,10 +97,7 @@ pub fn faulty(
     if w < floor {
         return true;
     }
-    if mirrored(starts, places, w, v, cursors) {
-        return false;
-    }
-    true
+    !mirrored(starts, places, w, v, cursors)
 }
 
 // The lowest frame with a faulty list, or n where there is none. The scan ends as a whole at the first faulty link.
@@ -118,38 +107,31 @@ pub fn first_faulty(n: usize, starts: &[u32], places: &[u32]) -> usize
 {
     let mut cursors = [0u32; 4096];
     set_cursors(n, starts, &mut cursors);
-    let mut v: usize = 0;
-    'frames: while v < n {
-        let next = v + 1;
-        let end = starts[next] as usize;
-        let mut at = starts[v] as usize;
+    let mut found = n;
+    'frames: for v in 0..n {
+        let from = starts[v] as usize;
+        let end = starts[v + 1] as usize;
         let mut floor: usize = 0;
-        while at < end {
-            let w = places[at] as usize;
+        for link in &places[from..end] {
+            let w = *link as usize;
             if faulty(n, starts, places, v, floor, w, &mut cursors) {
+                found = v;
                 break 'frames;
             }
             floor = w + 1;
-            at += 1;
         }
-        v += 1;
     }
-    v
+    found
 }
 
 // Tests 3 and 4.
-pub fn tests(n: usize, starts: &[u32], places: &[u32]) -> Verdict
+pub fn tests(n: usize, starts: &[u32], places: &[u32]) -> Result<(), Refusal>
     requires { Fits n starts.now places.now }
     ensures { result
         ≡ (starts_test n starts.now places.now
         then lists_test n starts.now places.now) }
 {
-    if starts_right(n, starts, places) {
-        let v = first_faulty(n, starts, places);
-        if v == n {
-            return Verdict::Fine;
-        }
-        return refusal::refused(refusal::LINKS, v);
-    }
-    refusal::refused(refusal::STARTS, 0)
+    test(starts_right(n, starts, places), Reason::Starts, 0)?;
+    let v = first_faulty(n, starts, places);
+    test(v == n, Reason::Links, v)
 }

@@ -1,23 +1,23 @@
 -- The laws of the way from a file's bytes to its text: what each test that is passed, or refuses, makes of it.
+use Rattle.refusal.specs.Tests.{Verdict, fine}
+use Rattle.std.specs.Prelude.{Ok, Err}
+use Rattle.std.specs.Result.{result_unwrap_or}
 use Prim.Native.Nat.{ℕ, ◌*◌, ◌≤◌, ◌<◌}
 use native.Mathlib.Omega.{arith}
 use mathlib.Core.Path.{◌≡◌, refl, sym, ap, subst, ◌∙◌}
 use mathlib.Core.Bool.{true}
 use mathlib.Core.List.{List}
-use lib.ListN.{length, get_or, take}
+use lib.ListN.{length, take}
 use lib.Seq.{length-take-le}
 use borrow.Author.Tests.{le-leb, lt-leb}
-use Rattle.refusal.specs.Numbers.{SIZE}
+use Rattle.refusal.specs.Numbers.{number_of, SIZE}
 use Rattle.refusal.specs.declared.Refusal.{Refusal}
-use Rattle.refusal.specs.declared.Verdict.{Verdict}
 use Rattle.refusal.proofs.Laws.{test_fine, test_refused, after_fine, after_refused}
-use Rattle.rows.specs.declared.spread.SpreadAnswer.{SpreadAnswer}
 use Rattle.rows.specs.Rooms.{sound_row, check_rows}
-use Rattle.rows.specs.Spread.{spread_figure, spread_of, spread_told}
+use Rattle.rows.specs.Spread.{spread_figure, spread_of, SpreadAnswer}
 use Rattle.rows.proofs.RoomLaws.{rows_sound}
 use Rattle.rows.proofs.SpreadLaws.{spread_sound}
-use Rattle.file.specs.declared.Opened.{Opened}
-use Rattle.file.specs.Reader.{frames_of, stop_of, header_test, header_of, read_test, read_of, filled_in, read_outcome, ReadOutcome, opened_told}
+use Rattle.file.specs.Reader.{frames_of, stop_of, header_test, header_of, read_test, read_of, filled_in, read_outcome, ReadOutcome, opened_told, Opened, indexed}
 use Rattle.file.proofs.Heading.{index_is, refused_is}
 use Rattle.file.proofs.ReadSpread.{read_rows}
 use Rattle.listing.specs.Lines.{WIDTH, MOST, refused_text}
@@ -27,7 +27,7 @@ use Rattle.listing.specs.Listing.{index_text, file_text, read_text, listing_test
 -- ---- the index
 
 -- sound rows can be listed
-pub shown_by : (n : ℕ) {order labels counts : List ℕ} → check_rows n WIDTH n labels counts ≡ Verdict.Fine
+pub shown_by : (n : ℕ) {order labels counts : List ℕ} → check_rows n WIDTH n labels counts ≡ fine
     → Cut order labels counts → Shown order labels counts
 shown_by n {order} {labels} {counts} e cut =
     let (rooms, sound) = rows_sound n WIDTH n labels counts e in
@@ -39,29 +39,28 @@ shown_by n {order} {labels} {counts} e cut =
     }
 
 -- and the spread that was answered is theirs
-pub spread_said : (n : ℕ) {spread : ℕ} (labels counts : List ℕ) {a : SpreadAnswer} → check_rows n WIDTH n labels counts ≡ Verdict.Fine
-    → a ≡ spread_of n WIDTH labels counts → spread ≡ get_or (spread_told a).values 0 0 → spread ≡ spread_figure n WIDTH labels counts
-unfolding spread_told
+pub spread_said : (n : ℕ) {spread : ℕ} (labels counts : List ℕ) {a : SpreadAnswer} → check_rows n WIDTH n labels counts ≡ fine
+    → a ≡ spread_of n WIDTH labels counts → spread ≡ result_unwrap_or a 0 → spread ≡ spread_figure n WIDTH labels counts
 spread_said n labels counts e f g =
-    g ∙ ap (λ (x : SpreadAnswer). get_or (spread_told x).values 0 0) (f ∙ spread_sound n WIDTH labels counts e)
+    g ∙ ap (λ (x : SpreadAnswer). result_unwrap_or x 0) (f ∙ spread_sound n WIDTH labels counts e)
 
 -- ---- the reader's answer
 
 -- the text by the reader's answer and what it left in the rooms
 unfoldable pub opened_text : Opened → List ℕ → List ℕ → List ℕ → List ℕ
-opened_text (Opened.Index n k) order labels counts = index_text n k order labels counts
-opened_text (Opened.Refused r) order labels counts = refused_text r.number
+opened_text (Ok x) order labels counts = index_text x.n x.k order labels counts
+opened_text (Err r) order labels counts = refused_text (number_of r.reason)
 
 filled_text : (v : Verdict) (s order labels counts : List ℕ)
     → let o : ReadOutcome = filled_in v s WIDTH order labels counts in
     opened_text o.answer o.order o.labels o.counts ≡ read_text v s
 unfolding filled_in opened_text read_text file_text
-filled_text Verdict.Fine s order labels counts = refl
-filled_text (Verdict.Refused r) s order labels counts = refl
+filled_text (Ok _) s order labels counts = refl
+filled_text (Err r) s order labels counts = refl
 
 -- a refusal's number as text
-pub refused_text_lem : {a : Opened} {r : Refusal} {number : ℕ} → number ≡ (opened_told a).number → a ≡ Opened.Refused r
-    → refused_text number ≡ refused_text r.number
+pub refused_text_lem : {a : Opened} {r : Refusal} {number : ℕ} → number ≡ (opened_told a).number → a ≡ Err r
+    → refused_text number ≡ refused_text (number_of r.reason)
 unfolding opened_told
 refused_text_lem e f = ap refused_text (e ∙ ap (λ (a : Opened). (opened_told a).number) f)
 
@@ -78,8 +77,8 @@ read_found s order labels counts {order'} {labels'} {counts'} e f =
 
 -- the rows of an index that was found are sound
 pub rows_found : (s order labels counts : List ℕ) {order' labels' counts' : List ℕ} {a : Opened} {n k : ℕ}
-    → read_outcome a order' labels' counts' ≡ read_of s WIDTH order labels counts → a ≡ Opened.Index n k
-    → check_rows n WIDTH n labels' counts' ≡ Verdict.Fine
+    → read_outcome a order' labels' counts' ≡ read_of s WIDTH order labels counts → a ≡ indexed n k
+    → check_rows n WIDTH n labels' counts' ≡ fine
 rows_found s order labels counts {order'} {labels'} {counts'} e f =
     read_rows s WIDTH order labels counts _ _ (sym (ap (λ (b : Opened). read_outcome b order' labels' counts') f) ∙ e)
 
@@ -91,34 +90,34 @@ unfolding listing_of
 text_of s e = sym (ap (λ (v : Verdict). read_text v s) e)
 
 -- a refused header
-pub header_refused : (s : List ℕ) {a : Opened} {r : Refusal} → a ≡ header_of s → a ≡ Opened.Refused r
-    → refused_text r.number ≡ listing_of s
+pub header_refused : (s : List ℕ) {a : Opened} {r : Refusal} → a ≡ header_of s → a ≡ Err r
+    → refused_text (number_of r.reason) ≡ listing_of s
 unfolding header_of listing_test read_text
 header_refused s e f = text_of s (after_refused _ (refused_is (header_test s) _ _ (sym f ∙ e)))
 
-module _ (s : List ℕ) {a : Opened} {n k : ℕ} (e : a ≡ header_of s) (f : a ≡ Opened.Index n k) where
-  fine : (header_test s ≡ Verdict.Fine) × (frames_of s ≡ n)
+module _ (s : List ℕ) {a : Opened} {n k : ℕ} (e : a ≡ header_of s) (f : a ≡ indexed n k) where
+  passed : (header_test s ≡ fine) × (frames_of s ≡ n)
   unfolding header_of
-  fine =
+  passed =
       let (v, frames, stop) = index_is (header_test s) (frames_of s) (stop_of s) (sym f ∙ e) in
       (v, sym frames)
 
   -- more than 256 frames
-  pub over_frames : MOST < n → refused_text SIZE ≡ listing_of s
+  pub over_frames : MOST < n → refused_text (number_of SIZE) ≡ listing_of s
   unfolding listing_test read_text
   over_frames more =
       text_of s
-      (after_fine _ fine.0
-      ∙ after_refused _ (test_refused SIZE 0 (lt-leb (frames_of s) MOST (omega (arith, fine.1)))))
+      (after_fine _ passed.0
+      ∙ after_refused _ (test_refused SIZE 0 (lt-leb (frames_of s) MOST (omega (arith, passed.1)))))
 
   -- at most 256: the reader decides
   pub within_frames : n ≤ MOST → read_text (read_test s WIDTH n (n * WIDTH) n) s ≡ listing_of s
   unfolding listing_test
   within_frames most =
-      subst (λ (m : ℕ). read_text (read_test s WIDTH m (m * WIDTH) m) s ≡ listing_of s) fine.1
+      subst (λ (m : ℕ). read_text (read_test s WIDTH m (m * WIDTH) m) s ≡ listing_of s) passed.1
       (text_of s
-      (after_fine _ fine.0
-      ∙ after_fine _ (test_fine SIZE 0 (le-leb (frames_of s) MOST (omega (arith, fine.1))))))
+      (after_fine _ passed.0
+      ∙ after_fine _ (test_fine SIZE 0 (le-leb (frames_of s) MOST (omega (arith, passed.1))))))
 
 -- ---- rooms cut to n frames
 

@@ -5,8 +5,10 @@ use native.Mathlib.Numerals.{add-one}
 use native.Mathlib.Omega.{arith}
 use mathlib.Core.Path.{◌≡◌, refl, sym, ap, subst, ◌∙◌}
 use mathlib.Core.List.{List, [], ◌∷◌, ◌++◌, append_assoc, append-nil}
-use lib.ListN.{length, get_or, take, set, length-append, length-set}
-use lib.Seq.{take-suc, take-suc-set, drop-set-lt}
+use lib.ListN.{length, take, drop, set, length-append, length-drop, length-set}
+use lib.Seq.{length-take-le, take-suc-set, drop-set-lt}
+use Rattle.std.proofs.Math.Seq.{take-append-add, take-append_seam, drop-append-add, drop-append_seam}
+use Rattle.std.proofs.lemmas.List.{drop-drop}
 use lib.Dec.{ltb}
 use borrow.Author.Tests.{lt-ltb, le-ltb}
 use Rattle.basics.proofs.Laws.{first_is, lt_or_ge, drop_later}
@@ -45,14 +47,29 @@ put_more {room} {mid} {last} {s} {t} {at} {next} {end} p q =
 pub put_as : {room last s t : List ℕ} {at end : ℕ} → s ≡ t → PutText room at s last end → PutText room at t last end
 put_as {room} {last} {at = at} {end} e p = subst (λ (t : List ℕ). PutText room at t last end) e p
 
--- one byte more of a text
-pub put_next : {room mid : List ℕ} {at : ℕ} (text : List ℕ) (i : ℕ) → i < length text → at + i < length mid
-    → PutText room at (take i text) mid (at + i)
-    → PutText room at (take (i + 1) text) (set mid (at + i) (get_or text i 0)) (at + (i + 1))
-put_next {room} {mid} {at} text i inside fits p =
-    rw (add-one, take-suc text i 0)
-    (subst (λ (k : ℕ). PutText room at (take i text ++ (get_or text i 0 ∷ [])) (set mid (at + i) (get_or text i 0)) k) (omega arith)
-    (put_more p (put_byte mid (at + i) (get_or text i 0) fits)))
+-- text copied into a part of the room that is as long
+pub put_part : (room text : List ℕ) (at k : ℕ) → k ≡ length text → at + k ≤ length room
+    → PutText room at text (take at room ++ (text ++ drop k (drop at room))) (at + length text)
+put_part room text at k e h =
+    let front : List ℕ = take at room in
+    let back : List ℕ = drop k (drop at room) in
+    let long : length front ≡ at = length-take-le at room (omega arith) in
+    record {
+      long =
+          omega
+          (arith, long, length-append front (text ++ back), length-append text back, length-drop k (drop at room), length-drop at room);
+      ends = refl;
+      holds =
+          ap (λ (j : ℕ). take (j + length text) (front ++ (text ++ back))) (sym long)
+          ∙ take-append-add front (text ++ back) (length text)
+          ∙ ap (λ (l : List ℕ). front ++ l) (take-append_seam text back);
+      rest =
+          ap (λ (j : ℕ). drop (j + length text) (front ++ (text ++ back))) (sym long)
+          ∙ drop-append-add front (text ++ back) (length text)
+          ∙ drop-append_seam text back
+          ∙ drop-drop k at room
+          ∙ ap (λ (j : ℕ). drop j room) (omega arith);
+    }
 
 -- ---- a number
 

@@ -1,10 +1,9 @@
 -- What the listing program prints for an input: the tests in the paper's order, then the index line by line. `s` is the
 -- byte string.
-use Rattle.std.specs.Prelude.{ℕ, ◌*◌, List, ◌++◌, length, drop, leb}
+use Rattle.std.specs.Prelude.{ℕ, ◌*◌, List, ◌++◌, length, drop, leb, Ok, Err}
 use Rattle.basics.specs.Places.{sum}
-use Rattle.refusal.specs.Numbers.{SIZE}
-use Rattle.refusal.specs.Tests.{test, ◌then◌}
-use Rattle.refusal.specs.declared.Verdict.{Verdict}
+use Rattle.refusal.specs.Numbers.{number_of, SIZE}
+use Rattle.refusal.specs.Tests.{test, ◌then◌, Verdict}
 use Rattle.rows.specs.Spread.{spread_figure}
 use Rattle.file.specs.Reader.{frames_of, stop_of, header_test, read_test, order_read, labels_read, counts_read}
 use Rattle.listing.specs.Lines.{WIDTH, MOST, head_text, lines_text, refused_text}
@@ -21,8 +20,8 @@ file_text s n = index_text n (stop_of s) (order_read s n) (labels_read s n WIDTH
 
 -- unless the reader hands over an index, `refused` with the number
 unfoldable pub read_text : Verdict → List ℕ → List ℕ
-read_text Verdict.Fine s = file_text s (frames_of s)
-read_text (Verdict.Refused r) s = refused_text r.number
+read_text (Ok _) s = file_text s (frames_of s)
+read_text (Err r) s = refused_text (number_of r.reason)
 
 -- the header; more than 256 frames: `refused 1`, tested after the header; then the reader, with W = 32
 unfoldable pub listing_test : List ℕ → Verdict

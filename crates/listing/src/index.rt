@@ -1,8 +1,7 @@
 // From a file's bytes to the text: the header, the test on the frames, the reader on rooms of just that length, the lines.
-ghost use Rattle.std.specs.Prelude.{◌≡◌, ◌*◌, ◌≤◌, length, get_or};
-ghost use Rattle.refusal.specs.declared.Verdict.{Verdict};
+ghost use Rattle.std.specs.Prelude.{◌≡◌, ◌*◌, ◌≤◌, length};
+ghost use Rattle.refusal.specs.Tests.{fine};
 ghost use Rattle.rows.specs.Rooms.{check_rows};
-ghost use Rattle.rows.specs.Spread.{spread_told};
 ghost use Rattle.file.specs.Reader.{read_test, opened_told};
 ghost use Rattle.listing.specs.Inner.{PutText, Cut};
 ghost use Rattle.listing.specs.Lines.{WIDTH as width, MOST, LONGEST};
@@ -10,18 +9,19 @@ ghost use Rattle.listing.specs.Listing.{listing_of, read_text, index_text};
 
 use crate::{FRAMES, WIDTH, lines};
 use entry::Entry;
-use file::Opened;
-use refusal::SIZE;
+use file::Index;
+use refusal::{Reason, Refusal};
 use rows::rooms::total;
-use rows::spread::SpreadAnswer;
+use rows::spread::spread;
 
 // The number of a refusal, 0 of an index.
-fn number_of(opened: Opened) -> u32
+#[tactic(auto, unfolding(file::specs::Reader::opened_told))]
+fn number_of(opened: Result<Index, Refusal>) -> u32
     ensures { result ≡ (opened_told opened).number }
 {
     match opened {
-        Opened::Index(_, _) => 0,
-        Opened::Refused(refusal) => refusal.number,
+        Ok(_) => 0,
+        Err(refusal) => refusal.number(),
     }
 }
 
@@ -41,11 +41,11 @@ pub fn open(
     ensures near { result ≤ LONGEST }
 {
     let opened = file::header(bytes);
-    let Opened::Index(n, _) = opened else {
+    let Ok(Index { n, .. }) = opened else {
         return lines::refused(out, number_of(opened));
     };
     if FRAMES < n {
-        return lines::refused(out, SIZE);
+        return lines::refused(out, Reason::Size as u32);
     }
     let label_places = n * WIDTH;
     read(
@@ -74,20 +74,10 @@ fn read(
     ensures near { result ≤ LONGEST }
 {
     let opened = file::read(bytes, WIDTH, order, labels, counts);
-    let Opened::Index(n, k) = opened else {
+    let Ok(Index { n, k }) = opened else {
         return lines::refused(out, number_of(opened));
     };
     show(n, k, order, labels, counts, out)
-}
-
-// The spread that was answered, 0 of a refusal.
-fn spread_of(answer: SpreadAnswer) -> usize
-    ensures { result ≡ get_or (spread_told answer).values 0 0 }
-{
-    match answer {
-        SpreadAnswer::Spread(spread) => spread,
-        SpreadAnswer::Refused(_) => 0,
-    }
 }
 
 // The text of an index. The reader vouches for its rows, so the spread question refuses none.
@@ -100,15 +90,14 @@ fn show(
     out: &mut [u8],
 ) -> usize
     requires cut { Cut order.now labels.now counts.now }
-    requires counts_value { check_rows n width n labels.now counts.now ≡ Verdict.Fine }
+    requires counts_value { check_rows n width n labels.now counts.now ≡ fine }
     requires in_bounds { LONGEST ≤ length out.old }
     ensures put { PutText out.old 0
         (index_text n k order.now labels.now counts.now)
         out.new result }
     ensures near { result ≤ LONGEST }
 {
-    let answer = rows::spread::spread(n, WIDTH, labels, counts);
-    let spread = spread_of(answer);
+    let spread = spread(n, WIDTH, labels, counts).unwrap_or(0);
     let entries = total(counts);
     let at = lines::head(out, n, k, entries, spread);
     lines::lines(out, at, order, labels, counts)

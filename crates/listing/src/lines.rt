@@ -36,11 +36,8 @@ pub fn entries(out: &mut [u8], at: usize, order: &[u32], row: &[Entry]) -> usize
     ensures near { result ≤ at + 42 * length row.now }
 {
     let mut end = at;
-    let mut i: usize = 0;
-    while i < row.len() {
-        let e = row[i];
+    for &e in row {
         end = entry(out, end, order, e);
-        i += 1;
     }
     end
 }
@@ -102,12 +99,9 @@ pub fn lines(out: &mut [u8], at: usize, order: &[u32], labels: &[Entry], counts:
     ensures near { result ≤ at + 1365 * length counts.now }
 {
     let mut end = at;
-    let mut v: usize = 0;
-    while v < counts.len() {
-        let count = counts[v] as usize;
-        let row = row_part(labels, WIDTH, v, count);
+    for (v, &count) in counts.iter().enumerate() {
+        let row = row_part(labels, WIDTH, v, count as usize);
         end = line(out, end, order, v, row);
-        v += 1;
     }
     end
 }

@@ -1,44 +1,61 @@
--- The numbers of the refusals, as the paper's table gives them.
+-- The numbers of the refusals, as the paper's table gives them, and the names by which the definitions call them.
 use Rattle.std.specs.Prelude.{ℕ}
+use Rattle.refusal.specs.declared.Reason.{Reason}
 
-abbrev pub SIZE : ℕ
-SIZE = 1
+unfoldable pub number_of : Reason → ℕ
+number_of Reason.Size = 1
+number_of Reason.Length = 2
+number_of Reason.Starts = 3
+number_of Reason.Links = 4
+number_of Reason.Order = 5
+number_of Reason.Room = 6
+number_of Reason.Far = 7
+number_of Reason.Frame = 8
+number_of Reason.Row = 9
+number_of Reason.Short = 10
+number_of Reason.Version = 11
+number_of Reason.Field = 12
+number_of Reason.Long = 13
+number_of Reason.Out = 14
 
-abbrev pub LENGTH : ℕ
-LENGTH = 2
+abbrev pub SIZE : Reason
+SIZE = Reason.Size
 
-abbrev pub STARTS : ℕ
-STARTS = 3
+abbrev pub LENGTH : Reason
+LENGTH = Reason.Length
 
-abbrev pub LINKS : ℕ
-LINKS = 4
+abbrev pub STARTS : Reason
+STARTS = Reason.Starts
 
-abbrev pub ORDER : ℕ
-ORDER = 5
+abbrev pub LINKS : Reason
+LINKS = Reason.Links
 
-abbrev pub ROOM : ℕ
-ROOM = 6
+abbrev pub ORDER : Reason
+ORDER = Reason.Order
 
-abbrev pub FAR : ℕ
-FAR = 7
+abbrev pub ROOM : Reason
+ROOM = Reason.Room
 
-abbrev pub FRAME : ℕ
-FRAME = 8
+abbrev pub FAR : Reason
+FAR = Reason.Far
 
-abbrev pub ROW : ℕ
-ROW = 9
+abbrev pub FRAME : Reason
+FRAME = Reason.Frame
 
-abbrev pub SHORT : ℕ
-SHORT = 10
+abbrev pub ROW : Reason
+ROW = Reason.Row
 
-abbrev pub VERSION : ℕ
-VERSION = 11
+abbrev pub SHORT : Reason
+SHORT = Reason.Short
 
-abbrev pub FIELD : ℕ
-FIELD = 12
+abbrev pub VERSION : Reason
+VERSION = Reason.Version
 
-abbrev pub LONG : ℕ
-LONG = 13
+abbrev pub FIELD : Reason
+FIELD = Reason.Field
 
-abbrev pub OUT : ℕ
-OUT = 14
+abbrev pub LONG : Reason
+LONG = Reason.Long
+
+abbrev pub OUT : Reason
+OUT = Reason.Out

@@ -1,56 +1,80 @@
-// The refusal, as a value: a number and a place, 0 where none is named. The numbers 1 to 14 of the paper stand here and
-// in specs/Numbers.antt, and nowhere else in this code and its definitions; the C header and the Rust binding name them too.
+// The refusal, as a value: why, and a place, 0 where none is named. The numbers 1 to 14 of the paper stand here and in
+// specs/Numbers.antt, and nowhere else in this code and its definitions; the C header and the Rust binding name them too.
 #![tactic(auto)]
 
 pub mod sizes;
 
-ghost use Rattle.std.specs.Prelude.{◌≡◌};
-ghost use Rattle.refusal.specs.Tests.{refusal};
+ghost use Rattle.std.specs.Prelude.{◌≡◌, Ok, Err};
+ghost use Rattle.refusal.specs.Numbers.{number_of};
+ghost use Rattle.refusal.specs.Tests.{refusal, test};
 
-pub const SIZE: u32 = 1;
+use std::fmt;
 
-pub const LENGTH: u32 = 2;
+// Why a call is refused, by the paper's table: as a number it is the one that a C caller gets.
+#[derive(Clone, Copy, Debug, PartialEq, Eq)]
+pub enum Reason {
+    Size = 1,
+    Length = 2,
+    Starts = 3,
+    Links = 4,
+    Order = 5,
+    Room = 6,
+    Far = 7,
+    Frame = 8,
+    Row = 9,
+    Short = 10,
+    Version = 11,
+    Field = 12,
+    Long = 13,
+    Out = 14,
+}
 
-pub const STARTS: u32 = 3;
+impl Reason {
+    // The refusal with this reason and place.
+    pub fn at(self, place: usize) -> Refusal
+        ensures { result ≡ refusal self place }
+    {
+        Refusal {
+            reason: self,
+            place,
+        }
+    }
+}
 
-pub const LINKS: u32 = 4;
-
-pub const ORDER: u32 = 5;
-
-pub const ROOM: u32 = 6;
-
-pub const FAR: u32 = 7;
-
-pub const FRAME: u32 = 8;
-
-pub const ROW: u32 = 9;
-
-pub const SHORT: u32 = 10;
-
-pub const VERSION: u32 = 11;
-
-pub const FIELD: u32 = 12;
-
-pub const LONG: u32 = 13;
-
-pub const OUT: u32 = 14;
-
-#[derive(Clone, Copy)]
+#[derive(Clone, Copy, Debug, PartialEq, Eq)]
 pub struct Refusal {
-    pub number: u32,
+    pub reason: Reason,
     pub place: usize,
 }
 
-// What a test, or several in a row, found: nothing, or the first refusal.
-#[derive(Clone, Copy)]
-pub enum Verdict {
-    Fine,
-    Refused(Refusal),
+impl Refusal {
+    // The paper's number.
+    pub fn number(self) -> u32
+        ensures { result ≡ number_of self.reason }
+    {
+        self.reason as u32
+    }
 }
 
-// Refused with this number and place.
-pub fn refused(number: u32, place: usize) -> Verdict
-    ensures { result ≡ Verdict.Refused (refusal number place) }
+impl fmt::Display for Refusal {
+    fn fmt<W: fmt::Write>(&self, f: &mut fmt::Formatter<W>) -> fmt::Result {
+        write!(f, "refused {} at {}", self.number(), self.place)
+    }
+}
+
+// Refused with this reason and place.
+pub fn refused(reason: Reason, place: usize) -> Result<(), Refusal>
+    ensures { result ≡ Err (refusal reason place) }
 {
-    Verdict::Refused(Refusal { number, place })
+    Err(reason.at(place))
+}
+
+// Fine where the test holds, else refused with this reason and place.
+pub fn test(holds: bool, reason: Reason, place: usize) -> Result<(), Refusal>
+    ensures { result ≡ test holds reason place }
+{
+    if !holds {
+        return refused(reason, place);
+    }
+    Ok(())
 }

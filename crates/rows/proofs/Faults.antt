@@ -1,50 +1,41 @@
 -- Entries that break the rule behind the one before them: one of them as a number, how many there are, and what a row is that
 -- has none.
 use Prim.Native.Nat.{ℕ, zero, suc, ◌+◌, ◌-◌, ◌≤◌, ◌<◌}
-use mathlib.Core.Path.{◌≡◌, refl, sym, ap, subst}
-use mathlib.Core.Bool.{Bool, true, false, not}
+use mathlib.Core.Path.{◌≡◌, sym, ap, subst, ◌∙◌}
+use mathlib.Core.Bool.{Bool, true, false, not, cond}
 use mathlib.Core.List.{List}
 use native.Mathlib.Nat.{add-sub_cancel}
 use native.Mathlib.Numerals.{add-one}
 use native.Mathlib.Omega.{arith}
-use borrow.Author.Tests.{le-leb, lt-leb, leb-true, leb-false}
+use borrow.Author.Tests.{leb-true, leb-false}
 use lib.ListN.{length, get_or}
 use lib.Dec.{leb}
 use Rattle.basics.specs.Places.{count, some}
 use Rattle.basics.proofs.Laws.{bcase, cases, either_true, either_false, count_hit, count_miss, none_counted, some_counted, some_found, some_one, some_none, never_falls, not_of_true, not_of_false}
 use Rattle.entry.specs.Entry.{rank_of, joins_of}
 use Rattle.rows.specs.Rooms.{faulty_entry}
-use Rattle.rows.specs.Inner.{breaks, broken_at, fault_of}
+use Rattle.rows.specs.Inner.{breaks, broken_at}
 use Rattle.rows.proofs.Laws.{faultless, faulty_joins, faulty_rise}
-
--- ---- one entry
-
-pub fault_rank : (n before e : ℕ) → rank_of e ≤ rank_of before → fault_of n before e ≡ 1
-unfolding fault_of breaks
-fault_rank n before e h = rw (le-leb (rank_of e) (rank_of before) h) refl
-
-pub fault_joins : (n before e : ℕ) → n ≤ joins_of e → fault_of n before e ≡ 1
-unfolding fault_of breaks
-fault_joins n before e h = bcase (leb (rank_of e) (rank_of before)) (λ q. rw q refl) (λ q. rw (q, le-leb n (joins_of e) h) refl)
-
-pub fault_none : (n before e : ℕ) → rank_of before < rank_of e → joins_of e < n → fault_of n before e ≡ 0
-unfolding fault_of breaks
-fault_none n before e h k = rw (lt-leb (rank_of e) (rank_of before) h, lt-leb n (joins_of e) k) refl
-
-pub fault_most : (n before e : ℕ) → fault_of n before e ≤ 1
-unfolding fault_of
-fault_most n before e = bcase (breaks n before e) (λ q. rw q (omega arith)) (λ q. rw q (omega arith))
 
 -- ---- a row
 
 -- one more entry counted
-pub faults_more : (n : ℕ) (row : List ℕ) (at : ℕ) → count (broken_at n row) at + fault_of n (get_or row at 0) (get_or row (at + 1) 0) ≡ count (broken_at n row) (at + 1)
-unfolding fault_of
+faults_more : (n : ℕ) (row : List ℕ) (at : ℕ) → count (broken_at n row) at + cond (breaks n (get_or row at 0) (get_or row (at + 1) 0)) 1 0 ≡ count (broken_at n row) (at + 1)
 faults_more n row at =
     let p : ℕ → Bool = broken_at n row in
     bcase (broken_at n row at)
     (λ q. rw q (omega (arith, ap (count p) (add-one at), count_hit p at q)))
     (λ q. rw q (omega (arith, ap (count p) (add-one at), count_miss p at q)))
+
+-- as a loop over the entries behind another goes
+pub faults_next : (n : ℕ) (row : List ℕ) (at : ℕ) → 1 ≤ at
+    → count (broken_at n row) (at - 1) + cond (breaks n (get_or row (at - 1) 0) (get_or row at 0)) 1 0 ≡ count (broken_at n row) (at + 1 - 1)
+faults_next n row at h =
+    let e : at - 1 + 1 ≡ at = omega arith in
+    let f : at + 1 - 1 ≡ at = omega arith in
+    ap (λ (k : ℕ). count (broken_at n row) (at - 1) + cond (breaks n (get_or row (at - 1) 0) (get_or row k 0)) 1 0) (sym e)
+    ∙ faults_more n row (at - 1)
+    ∙ ap (count (broken_at n row)) (e ∙ sym f)
 
 -- one faulty entry and the row is not sound
 pub part_refused : (n bound : ℕ) (row : List ℕ) (i : ℕ) → i < length row → faulty_entry n bound row i ≡ true

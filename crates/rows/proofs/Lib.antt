@@ -8,4 +8,5 @@ pub mod PairDepends
 pub mod PairLaws
 pub mod RoomLaws
 pub mod SpreadLaws
+pub mod Tests
 pub mod WithinLaws

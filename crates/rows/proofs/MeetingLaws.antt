@@ -1,6 +1,9 @@
 -- The laws of meetings along two rising rows: what one turn of the merge passes over, what it takes, and what it keeps.
+use Rattle.std.specs.Prelude.{Some, None}
 use Prim.Native.Nat.{ℕ, zero, suc, ◌+◌, ◌-◌, ◌≤◌, ◌<◌}
 use mathlib.Core.Path.{◌≡◌, refl, sym, ap, ◌∙◌}
+use Rattle.std.specs.Bool.{then_some}
+use mathlib.Core.Bool.{Bool}
 use mathlib.Core.List.{List, [], ◌∷◌, ◌++◌}
 use mathlib.Core.Logic.{◌⊎◌}
 use native.Mathlib.Nat.{add-zero}
@@ -8,15 +11,14 @@ use native.Mathlib.Numerals.{add-one}
 use native.Mathlib.Omega.{arith}
 use borrow.Author.Tests.{lt-ltb, le-ltb, le-leb, lt-leb, eq-eqb, ne_eqb}
 use lib.ListN.{length, get_or, drop, length-drop}
-use lib.Dec.{eqb}
+use lib.Dec.{eqb, ltb}
 use lib.Seq.{drop-cons, drop-length, get_or-drop}
 use Rattle.basics.proofs.Laws.{bcase, lt_or_ge, three_ways, cond_true, cond_false, either_left, cases, never_falls}
 use Rattle.entry.specs.Entry.{rank_of, joins_of}
-use Rattle.rows.specs.Inner.{Rises, no_sum, at_rank, past_by, lesser_by, best_of}
-use Rattle.rows.specs.Meetings.{meeting, meetings_at, meetings, goes_before, lesser_of, least_from, meeting_of}
+use Rattle.rows.specs.Inner.{Rises, no_sum, at_rank, past_by, lesser_by, turned, turn_of}
+use Rattle.rows.specs.Meetings.{meeting, meetings_at, meetings, goes_before, lesser_of, least_from, meeting_of, Best}
 use Rattle.rows.specs.declared.merge.Meeting.{Meeting}
-use Rattle.rows.specs.declared.merge.Best.{Best}
-use Rattle.rows.specs.declared.merge.Best.TheVariants.{Nowhere, Meet}
+use Rattle.rows.specs.declared.merge.Turn.{Turn}
 use Rattle.entry.proofs.Laws.{joins_small}
 
 -- every rank of the list is above r
@@ -123,9 +125,9 @@ past_most r o = lt_or_ge o r (λ h. omega (arith, stays r o h)) (λ h. omega (ar
 pub past_some : (r o : ℕ) → 1 ≤ past_by r o + past_by o r
 past_some r o = lt_or_ge o r (λ h. omega (arith, past o r (omega arith))) (λ h. omega (arith, past r o h))
 
--- what a turn holds against the least: the sum of two entries of one rank, and no sum elsewhere
-abbrev pub turned : ℕ → ℕ → Meeting
-turned e f = record { rank = rank_of e; sum = at_rank (rank_of e) (rank_of f) (joins_of e + joins_of f) }
+-- the least found, or nowhere
+unfoldable pub best_of : Meeting → Best
+best_of least = then_some (ltb least.sum no_sum) least
 
 -- no sum leaves the least as it is
 kept : (least : Meeting) (e f : ℕ) → least.sum ≤ no_sum → (rank_of e ≡ rank_of f → ⊥) → lesser_by least (turned e f) ≡ least
@@ -134,20 +136,20 @@ kept least e f small apart =
     let none : at_rank (rank_of e) (rank_of f) (joins_of e + joins_of f) ≡ no_sum = cond_false _ _ (ne_eqb (rank_of e) (rank_of f) apart) in
     cond_false _ _ (le-ltb (turned e f).sum least.sum (omega (arith, none)))
 
-met : (m : Meeting) → m.sum < no_sum → best_of m ≡ Meet m
+met : (m : Meeting) → m.sum < no_sum → best_of m ≡ Some m
 unfolding best_of
-met m h = cond_true _ _ (lt-ltb m.sum no_sum h)
+met m h = ap (λ (b : Bool). then_some b m) (lt-ltb m.sum no_sum h)
 
-not_met : (m : Meeting) → no_sum ≤ m.sum → best_of m ≡ Nowhere
+not_met : (m : Meeting) → no_sum ≤ m.sum → best_of m ≡ None
 unfolding best_of
-not_met m h = cond_false _ _ (le-ltb m.sum no_sum h)
+not_met m h = ap (λ (b : Bool). then_some b m) (le-ltb m.sum no_sum h)
 
-replaced : (k m : Meeting) → m.sum < k.sum → lesser_of (Meet k) m ≡ Meet m
+replaced : (k m : Meeting) → m.sum < k.sum → lesser_of (Some k) m ≡ Some m
 unfolding lesser_of goes_before
 replaced k m h = cond_true _ _ (either_left _ _ (lt-ltb m.sum k.sum h))
 
 -- the earlier has the lower rank, so that the sums alone decide
-stayed : (k m : Meeting) → k.sum ≤ m.sum → k.rank < m.rank → lesser_of (Meet k) m ≡ Meet k
+stayed : (k m : Meeting) → k.sum ≤ m.sum → k.rank < m.rank → lesser_of (Some k) m ≡ Some k
 unfolding lesser_of goes_before
 stayed k m h l =
     rw (le-ltb m.sum k.sum h, le-ltb m.rank k.rank (omega arith))
@@ -246,7 +248,7 @@ module _ {a b : List ℕ} {least : Meeting} {i j : ℕ} (m : Merged a b least i 
       }
 
   -- one turn of the merge
-  pub merged_on : Merged a b (lesser_by least (turned (get_or a i 0) (get_or b j 0)))
+  merged_on : Merged a b (lesser_by least (turned (get_or a i 0) (get_or b j 0)))
       (i + past_by (rank_of (get_or a i 0)) (rank_of (get_or b j 0)))
       (j + past_by (rank_of (get_or b j 0)) (rank_of (get_or a i 0)))
   merged_on =
@@ -257,3 +259,6 @@ module _ {a b : List ℕ} {least : Meeting} {i j : ℕ} (m : Merged a b least i 
       (λ l. rw (unlike (λ e. omega arith), first (omega arith), stays _ _ l, add-zero j) (merged_left l))
       (λ e. rw (first (omega arith), second (omega arith)) (merged_both e))
       (λ l. rw (unlike (λ e. omega arith), second (omega arith), stays _ _ l, add-zero i) (merged_right l))
+
+  pub merged_turn : {t : Turn} → t ≡ turn_of (get_or a i 0) (get_or b j 0) → Merged a b (lesser_by least t.meeting) (i + t.first) (j + t.second)
+  merged_turn e = rw e merged_on

@@ -1,5 +1,7 @@
 -- The answer of the pair question is the theory's: over rows with ranks and joins below n, the best meeting has the least sum
 -- of joins over the ranks below n that are in both rows.
+use Rattle.refusal.specs.Tests.{fine}
+use Rattle.std.specs.Prelude.{Some, None}
 use Prim.Native.Nat.{ℕ, zero, suc, ◌+◌, ◌≤◌, ◌<◌, min}
 use mathlib.Core.Path.{◌≡◌, refl, sym, ap, subst, ◌∙◌}
 use mathlib.Core.Bool.{true, false, cond}
@@ -12,18 +14,15 @@ use lib.ListN.{length, get_or}
 use lib.Dec.{eqb, ltb}
 use Rattle.basics.specs.Places.{least}
 use Rattle.basics.proofs.Laws.{bcase, by_cases, three_ways, cond_true, cond_false, either_false, either_true, both_true, cases, least_most, least_ge}
-use Rattle.refusal.specs.declared.Verdict.TheVariants.{Fine}
 use Rattle.theory.specs.Chains.{Least}
 use Rattle.theory.specs.Distance.{far, said}
 use Rattle.theory.specs.Rows.{Row, Shared, at, answer}
 use Rattle.theory.proofs.Plain.{plain_literal}
 use Rattle.entry.specs.Entry.{rank_of, joins_of, decode}
-use Rattle.rows.specs.Meetings.{meeting, meetings_at, meetings, goes_before, lesser_of, least_from, meeting_of}
+use Rattle.rows.specs.Meetings.{meeting, meetings_at, meetings, goes_before, lesser_of, least_from, meeting_of, Best}
 use Rattle.rows.specs.Pair.{pair_tests, pair_of, answered, said_of}
 use Rattle.rows.specs.Rooms.{row_at}
 use Rattle.rows.specs.declared.merge.Meeting.{Meeting}
-use Rattle.rows.specs.declared.merge.Best.{Best}
-use Rattle.rows.specs.declared.merge.Best.TheVariants.{Nowhere, Meet}
 use Rattle.entry.proofs.Laws.{in_decoded}
 use Rattle.rows.proofs.PairLaws.{pair_asked, sound_whole, answer_fine}
 
@@ -114,8 +113,8 @@ lowest_answer B n (e ∷ a) b small =
 
 -- a best meeting whose sum is below B
 data Below (B : ℕ) : Best → Type 0 where
-  nowhere : Below B Nowhere
-  meet : {m : Meeting} → m.sum < B → Below B (Meet m)
+  nowhere : Below B None
+  meet : {m : Meeting} → m.sum < B → Below B (Some m)
 
 pub data AllBelow (B : ℕ) : List Meeting → Type 0 where
   no_more : AllBelow B []
@@ -146,8 +145,8 @@ all_below B n (e ∷ a) b h small also =
 
 -- the sum of a best meeting, B where there is none
 value : ℕ → Best → ℕ
-value B Nowhere = B
-value B (Meet m) = m.sum
+value B None = B
+value B (Some m) = m.sum
 
 pub before_sum : (m k : Meeting) → goes_before m k ≡ true → m.sum ≤ k.sum
 unfolding goes_before
@@ -186,22 +185,22 @@ least_below {B} {best} p (one_more {m = m} {ms = ms} h q) =
     (all, rest ∙ ap (λ (k : ℕ). min k (lowest B ms)) one ∙ omega arith)
 
 -- a best meeting as a count: its sum where that is below B, none where there is none
-counted : {B : ℕ} {best : Best} → Below B best → said_of (answered Fine best) ≡ said B (value B best)
+counted : {B : ℕ} {best : Best} → Below B best → said_of (answered fine best) ≡ said B (value B best)
 unfolding said_of answered said value
 counted {B} nowhere = sym (cond_false _ _ (le-ltb B B (omega arith)))
 counted {B} (meet {m = m} h) = sym (cond_true _ _ (lt-ltb m.sum B h))
 
-from_nowhere : (B : ℕ) (ms : List Meeting) → min (value B Nowhere) (lowest B ms) ≡ lowest B ms
+from_nowhere : (B : ℕ) (ms : List Meeting) → min (value B None) (lowest B ms) ≡ lowest B ms
 unfolding value
 from_nowhere B ms = omega (arith, lowest_most B ms)
 
 -- two rows of ranks and joins below n meet best where the theory's answer is
 pub best_answer : (B n : ℕ) (a b : List ℕ) → n + n ≤ B → ((i : ℕ) → i < length a → rank_of (get_or a i 0) < n)
     → ((i : ℕ) → i < length a → joins_of (get_or a i 0) < n) → ((i : ℕ) → i < length b → joins_of (get_or b i 0) < n)
-    → said_of (answered Fine (meeting_of a b)) ≡ said B (answer B n (decode a) (decode b))
+    → said_of (answered fine (meeting_of a b)) ≡ said B (answer B n (decode a) (decode b))
 unfolding meeting_of
 best_answer B n a b h ranks small also =
-    let (all, least) = least_below {B = B} {best = Nowhere} nowhere (all_below B n a b h small also) in
+    let (all, least) = least_below {B = B} {best = None} nowhere (all_below B n a b h small also) in
     counted all ∙ ap (said B) (least ∙ from_nowhere B (meetings a b) ∙ lowest_answer B n a b ranks)
 
 two_fit : (n : ℕ) → n + n ≤ far 1 n
@@ -209,7 +208,7 @@ unfolding far
 two_fit n = omega (arith, one-mul n)
 
 -- a pair question that is not refused gives the theory's answer of the two rows
-pub pair_answer : (n w : ℕ) (labels counts : List ℕ) (s t : ℕ) → pair_tests n w labels counts s t ≡ Fine
+pub pair_answer : (n w : ℕ) (labels counts : List ℕ) (s t : ℕ) → pair_tests n w labels counts s t ≡ fine
     → said_of (pair_of n w labels counts s t)
     ≡ said (far 1 n) (answer (far 1 n) n (decode (row_at w labels counts s)) (decode (row_at w labels counts t)))
 pair_answer n w labels counts s t e =
@@ -223,7 +222,7 @@ pair_answer n w labels counts s t e =
 -- ---- in the paper's words
 
 -- the answer for (s,t): the least sum of joins over ranks found in both rows; "none" if no rank is shared
-pub pair_literal : (n w : ℕ) (labels counts : List ℕ) (s t : ℕ) → pair_tests n w labels counts s t ≡ Fine
+pub pair_literal : (n w : ℕ) (labels counts : List ℕ) (s t : ℕ) → pair_tests n w labels counts s t ≡ fine
     → Least (Shared (decode (row_at w labels counts s)) (decode (row_at w labels counts t)))
     (said_of (pair_of n w labels counts s t))
 pair_literal n w labels counts s t e =

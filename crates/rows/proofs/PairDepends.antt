@@ -1,5 +1,6 @@
 -- A pair question's answer depends on n, W, the lengths, the two frame numbers, and these rows' counts and used entries,
 -- nothing else; and it is told by the paper's numbers.
+use Rattle.std.specs.Prelude.{Ok, Err, Some, None}
 use Prim.Native.Nat.{ℕ, ◌+◌, ◌*◌, ◌≤◌, ◌<◌}
 use mathlib.Core.Path.{◌≡◌, refl, sym, ap, ◌∙◌}
 use mathlib.Core.Bool.{not, ◌&&◌}
@@ -10,23 +11,16 @@ use lib.Dec.{leb, eqb}
 use lib.Seq.{ext_get_or}
 use Rattle.basics.specs.Places.{some}
 use Rattle.basics.proofs.Laws.{lt_or_ge}
-use Rattle.refusal.specs.Numbers.{SIZE, LENGTH, FRAME, ROW}
+use Rattle.refusal.specs.Numbers.{SIZE, LENGTH, ROW}
 use Rattle.refusal.specs.Tests.{test, ◌then◌}
-use Rattle.refusal.specs.declared.Verdict.{Verdict}
-use Rattle.refusal.specs.declared.Verdict.TheVariants.{Fine, Refused}
-use Rattle.refusal.proofs.Laws.{vcase, Named, Numbered, test_numbered, then_numbered, gives_apart, refuses_apart, gives_refuses}
+use Rattle.refusal.proofs.Laws.{vcase, Named, named, gives_apart, refuses_apart, gives_refuses}
 use Rattle.refusal.specs.Sizes.{sizes_fit}
 use Rattle.rows.specs.Rooms.{room_tests, rooms_fit, frame_test, frame_tests, row_test, part, row_at, sound_row, faulty_entry}
 use Rattle.rows.specs.Meetings.{meeting_of}
-use Rattle.rows.specs.Pair.{pair_tests, pair_of, answered, pair_told}
-use Rattle.rows.specs.declared.merge.Best.{Best}
-use Rattle.rows.specs.declared.merge.Best.TheVariants.{Nowhere, Meet}
-use Rattle.rows.specs.declared.pair.Answer.{Answer}
-use Rattle.rows.specs.declared.pair.Answer.TheVariants as answers
+use Rattle.rows.specs.Pair.{pair_tests, pair_of, pair_told, Answer}
 use Rattle.rows.proofs.Laws.{get_d_part, row_sound}
 use Rattle.rows.proofs.PairLaws.{pair_asked, answer_fine, answer_refused}
 use Rattle.rows.proofs.RoomLaws.{count_unsound}
-use Rattle.rows.proofs.Named.{frame_numbered, row_numbered}
 
 -- ---- nothing else
 
@@ -96,30 +90,18 @@ pub shared_or_not {ℓ} : {C : Type ℓ} {j : ℕ} → 1 ∷ j ∷ [] ≡ 0 ∷ 
 shared_or_not e = let z : ◌≡◌ {A = ℕ} 1 0 = ap (λ (vs : List ℕ). get_or vs 0 0) e in absurd (omega arith)
 
 -- answers with the same numbers are the same
-pub pair_apart : (a b : Answer) → Named answers.Refused a → Named answers.Refused b → pair_told a ≡ pair_told b → a ≡ b
+pub pair_apart : (a b : Answer) → pair_told a ≡ pair_told b → a ≡ b
 unfolding pair_told
-pair_apart (answers.Joins j) (answers.Joins k) p q e = ap (λ (vs : List ℕ). answers.Joins (get_or vs 1 0)) (gives_apart e)
-pair_apart (answers.Joins j) answers.None p q e = shared_or_not (gives_apart e)
-pair_apart (answers.Joins j) (answers.Refused r) p q e = gives_refuses 2 (q r refl) e
-pair_apart answers.None (answers.Joins k) p q e = shared_or_not (sym (gives_apart e))
-pair_apart answers.None answers.None p q e = refl
-pair_apart answers.None (answers.Refused r) p q e = gives_refuses 2 (q r refl) e
-pair_apart (answers.Refused r) (answers.Joins k) p q e = gives_refuses 2 (p r refl) (sym e)
-pair_apart (answers.Refused r) answers.None p q e = gives_refuses 2 (p r refl) (sym e)
-pair_apart (answers.Refused r) (answers.Refused s) p q e = ap answers.Refused (refuses_apart 2 e)
-
--- a refusal's number is that of its test
-named_answered : (v : Verdict) (best : Best) → Numbered v → Named answers.Refused (answered v best)
-unfolding answered
-named_answered Fine Nowhere p r e = let z : ◌≡◌ {A = ℕ} 0 1 = cc in absurd (omega arith)
-named_answered Fine (Meet m) p r e = let z : ◌≡◌ {A = ℕ} 0 1 = cc in absurd (omega arith)
-named_answered (Refused s) best p r e = p r cc
+pair_apart (Ok (Some j)) (Ok (Some k)) e = ap (λ (vs : List ℕ). (Ok (Some (get_or vs 1 0)))) (gives_apart e)
+pair_apart (Ok (Some j)) (Ok None) e = shared_or_not (gives_apart e)
+pair_apart (Ok (Some j)) (Err r) e = gives_refuses r 2 e
+pair_apart (Ok None) (Ok (Some k)) e = shared_or_not (sym (gives_apart e))
+pair_apart (Ok None) (Ok None) e = refl
+pair_apart (Ok None) (Err r) e = gives_refuses r 2 e
+pair_apart (Err r) (Ok (Some k)) e = gives_refuses r 2 (sym e)
+pair_apart (Err r) (Ok None) e = gives_refuses r 2 (sym e)
+pair_apart (Err r) (Err s) e = ap Err (refuses_apart 2 e)
 
 -- every refusal of the pair question has a number
-pub pair_named : (n w : ℕ) (labels counts : List ℕ) (s t : ℕ) → Named answers.Refused (pair_of n w labels counts s t)
-unfolding pair_of pair_tests frame_test
-pair_named n w labels counts s t =
-    named_answered (pair_tests n w labels counts s t) _
-    (then_numbered _ _ (frame_numbered n w labels counts s)
-    (then_numbered _ _ (test_numbered _ FRAME 1 (omega arith))
-    (then_numbered _ _ (row_numbered n w n labels counts s) (row_numbered n w n labels counts t))))
+pub pair_named : (n w : ℕ) (labels counts : List ℕ) (s t : ℕ) → Named Err (pair_of n w labels counts s t)
+pair_named n w labels counts s t = named Err _

@@ -1,4 +1,6 @@
 -- The laws of the spread: in a row of rising ranks, rank 0 can only stand first.
+use Rattle.refusal.specs.Tests.{fine}
+use Rattle.std.specs.Prelude.{Ok, Err}
 use Prim.Native.Nat.{ℕ, zero, suc, ◌*◌, ◌<◌}
 use mathlib.Core.Path.{◌≡◌, refl, sym, ap}
 use mathlib.Core.Bool.{true}
@@ -11,17 +13,12 @@ use lib.Dec.{eqb}
 use lib.Seq.{drop-cons}
 use Rattle.basics.proofs.Laws.{bcase}
 use Rattle.refusal.specs.declared.Refusal.{Refusal}
-use Rattle.refusal.specs.declared.Verdict.{Verdict}
-use Rattle.refusal.specs.declared.Verdict.TheVariants as verdicts
-use Rattle.refusal.proofs.Laws.{Named, Numbered, gives_apart, refuses_apart, gives_refuses}
+use Rattle.refusal.proofs.Laws.{Named, named, gives_apart, refuses_apart, gives_refuses}
 use Rattle.entry.specs.Entry.{rank_of}
 use Rattle.rows.specs.Inner.{Rises, Rooms, front_joins}
 use Rattle.rows.specs.Rooms.{part, row_at, sound_row, check_rows}
-use Rattle.rows.specs.Spread.{joins_at_zero, farthest_in, farthest, spread_figure, spread_by, spread_of, spread_told}
-use Rattle.rows.specs.declared.spread.SpreadAnswer.{SpreadAnswer}
-use Rattle.rows.specs.declared.spread.SpreadAnswer.TheVariants.{Spread, Refused}
+use Rattle.rows.specs.Spread.{joins_at_zero, farthest_in, farthest, spread_figure, spread_by, spread_of, spread_told, SpreadAnswer}
 use Rattle.entry.proofs.Laws.{joins_small}
-use Rattle.rows.proofs.Named.{rows_numbered}
 use Rattle.rows.proofs.PairLaws.{row_in}
 
 -- ---- one row
@@ -82,39 +79,31 @@ farthest_small w labels counts (suc v) = omega (arith, small_in (row_at w labels
 
 -- the answer behind the tests
 module _ (n w : ℕ) (labels counts : List ℕ) where
-  pub spread_fine : {d : ℕ} → check_rows n w n labels counts ≡ verdicts.Fine → d ≡ farthest w labels counts n
-      → Spread (2 * d) ≡ spread_of n w labels counts
+  pub spread_fine : {d : ℕ} → check_rows n w n labels counts ≡ fine → d ≡ farthest w labels counts n
+      → Ok (2 * d) ≡ spread_of n w labels counts
   unfolding spread_of spread_by spread_figure
   spread_fine e f = λ i. spread_by (sym e i) (2 * f i)
 
   -- so it is the figure where every row is sound
-  pub spread_sound : check_rows n w n labels counts ≡ verdicts.Fine → spread_of n w labels counts ≡ Spread (spread_figure n w labels counts)
+  pub spread_sound : check_rows n w n labels counts ≡ fine → spread_of n w labels counts ≡ Ok (spread_figure n w labels counts)
   unfolding spread_figure
   spread_sound e = sym (spread_fine e refl)
 
-  pub spread_refused : {r : Refusal} → check_rows n w n labels counts ≡ verdicts.Refused r
-      → Refused r ≡ spread_of n w labels counts
+  pub spread_refused : {r : Refusal} → check_rows n w n labels counts ≡ Err r
+      → Err r ≡ spread_of n w labels counts
   unfolding spread_of spread_by
   spread_refused e = λ i. spread_by (sym e i) (spread_figure n w labels counts)
 
 -- ---- the paper's numbers tell
 
 -- answers with the same numbers are the same
-pub spread_apart : (a b : SpreadAnswer) → Named Refused a → Named Refused b → spread_told a ≡ spread_told b → a ≡ b
+pub spread_apart : (a b : SpreadAnswer) → spread_told a ≡ spread_told b → a ≡ b
 unfolding spread_told
-spread_apart (Spread d) (Spread k) p q e = ap (λ (vs : List ℕ). Spread (get_or vs 0 0)) (gives_apart e)
-spread_apart (Spread d) (Refused r) p q e = gives_refuses 1 (q r refl) e
-spread_apart (Refused r) (Spread k) p q e = gives_refuses 1 (p r refl) (sym e)
-spread_apart (Refused r) (Refused s) p q e = ap Refused (refuses_apart 1 e)
-
--- a refusal's number is that of its test
-named_by : (v : Verdict) (d : ℕ) → Numbered v → Named Refused (spread_by v d)
-unfolding spread_by
-named_by verdicts.Fine d p r e = let z : ◌≡◌ {A = ℕ} 0 1 = cc in absurd (omega arith)
-named_by (verdicts.Refused s) d p r e = p r cc
+spread_apart (Ok d) (Ok k) e = ap (λ (vs : List ℕ). Ok (get_or vs 0 0)) (gives_apart e)
+spread_apart (Ok d) (Err r) e = gives_refuses r 1 e
+spread_apart (Err r) (Ok k) e = gives_refuses r 1 (sym e)
+spread_apart (Err r) (Err s) e = ap Err (refuses_apart 1 e)
 
 -- every refusal of the spread question has a number
-pub spread_named : (n w : ℕ) (labels counts : List ℕ) → Named Refused (spread_of n w labels counts)
-unfolding spread_of
-spread_named n w labels counts =
-    named_by (check_rows n w n labels counts) (spread_figure n w labels counts) (rows_numbered n w n labels counts)
+pub spread_named : (n w : ℕ) (labels counts : List ℕ) → Named Err (spread_of n w labels counts)
+spread_named n w labels counts = named Err _

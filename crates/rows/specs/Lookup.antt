@@ -1,10 +1,8 @@
 -- The row lookup hands back the used part of that frame's row inside the label room; where the check refuses, it hands back
 -- the empty part at the room's front.
-use Rattle.std.specs.Prelude.{ℕ, ◌*◌, List, [], ◌∷◌, length}
-use Rattle.refusal.specs.Tests.{if_fine}
+use Rattle.std.specs.Prelude.{ℕ, ◌*◌, List, [], ◌∷◌, length, Ok, Err}
+use Rattle.refusal.specs.Tests.{if_fine, Verdict}
 use Rattle.refusal.specs.Told.{Told, gives, refuses}
-use Rattle.refusal.specs.declared.Verdict.{Verdict}
-use Rattle.refusal.specs.declared.Verdict.TheVariants.{Fine, Refused}
 use Rattle.rows.specs.Rooms.{row_at, check_row}
 
 -- the entries handed back
@@ -17,8 +15,8 @@ row_start n w labels counts v = if_fine (check_row n w labels counts v) (v * w) 
 
 -- the paper's numbers: where they start, and how many they are
 unfoldable pub part_told : Verdict → ℕ → ℕ → Told
-part_told Fine start count = gives (start ∷ count ∷ [])
-part_told (Refused r) start count = refuses r 2
+part_told (Ok _) start count = gives (start ∷ count ∷ [])
+part_told (Err r) start count = refuses r 2
 
 unfoldable pub row_told : ℕ → ℕ → List ℕ → List ℕ → ℕ → Told
 row_told n w labels counts v =

@@ -1,10 +1,12 @@
 -- The answer of two rows as entries lie in them: every pair of entries of equal rank is a meeting, and the best of them has
 -- the least sum of joins, the lowest rank of these.
-use Rattle.std.specs.Prelude.{ℕ, ◌+◌, Bool, cond, ◌&&◌, ◌||◌, List, [], ◌∷◌, ◌++◌, eqb, ltb}
+use Rattle.std.specs.Prelude.{ℕ, ◌+◌, Bool, cond, ◌&&◌, ◌||◌, List, [], ◌∷◌, ◌++◌, eqb, ltb, Some, None, Option}
 use Rattle.entry.specs.Entry.{rank_of, joins_of}
 use Rattle.rows.specs.declared.merge.Meeting.{Meeting}
-use Rattle.rows.specs.declared.merge.Best.{Best}
-use Rattle.rows.specs.declared.merge.Best.TheVariants.{Nowhere, Meet}
+
+-- the best meeting, if there is one
+abbrev pub Best : Type 0
+Best = Option Meeting
 
 -- the meeting of two entries of equal rank
 abbrev pub meeting : ℕ → ℕ → Meeting
@@ -26,8 +28,8 @@ goes_before m k = ltb m.sum k.sum || (eqb m.sum k.sum && ltb m.rank k.rank)
 
 -- the lesser of the best so far and one more
 unfoldable pub lesser_of : Best → Meeting → Best
-lesser_of Nowhere m = Meet m
-lesser_of (Meet k) m = cond (goes_before m k) (Meet m) (Meet k)
+lesser_of None m = Some m
+lesser_of (Some k) m = cond (goes_before m k) (Some m) (Some k)
 
 -- the least of a list of meetings and the best so far
 unfoldable pub least_from : Best → List Meeting → Best
@@ -36,4 +38,4 @@ least_from best (m ∷ ms) = least_from (lesser_of best m) ms
 
 -- the best meeting of two rows
 unfoldable pub meeting_of : List ℕ → List ℕ → Best
-meeting_of a b = least_from Nowhere (meetings a b)
+meeting_of a b = least_from None (meetings a b)

@@ -1,16 +1,15 @@
 -- The pair question: its tests, its answer, and the paper's numbers for each case of the answer.
-use Rattle.std.specs.Prelude.{ℕ, List, [], ◌∷◌}
-use Rattle.refusal.specs.Tests.{◌then◌}
+use Rattle.refusal.specs.declared.Refusal.{Refusal}
+use Rattle.std.specs.Prelude.{ℕ, List, [], ◌∷◌, Ok, Err, Some, None, Option, Result}
+use Rattle.refusal.specs.Tests.{◌then◌, Verdict}
 use Rattle.refusal.specs.Told.{Told, gives, refuses}
-use Rattle.refusal.specs.declared.Verdict.{Verdict}
-use Rattle.refusal.specs.declared.Verdict.TheVariants.{Fine, Refused}
 use Rattle.theory.specs.Chains.{Count, joins, none}
 use Rattle.rows.specs.Rooms.{frame_test, frame_tests, row_test, row_at}
-use Rattle.rows.specs.Meetings.{meeting_of}
-use Rattle.rows.specs.declared.merge.Best.{Best}
-use Rattle.rows.specs.declared.merge.Best.TheVariants.{Nowhere, Meet}
-use Rattle.rows.specs.declared.pair.Answer.{Answer}
-use Rattle.rows.specs.declared.pair.Answer.TheVariants as answers
+use Rattle.rows.specs.Meetings.{meeting_of, Best}
+
+-- a number of joins, none where no rank is shared, or a refusal
+abbrev pub Answer : Type 0
+Answer = Result (Option ℕ) Refusal
 
 -- pair: 1, 2, 8, then 9 for the first frame, then for the second
 unfoldable pub pair_tests : ℕ → ℕ → List ℕ → List ℕ → ℕ → ℕ → Verdict
@@ -22,9 +21,9 @@ pair_tests n w labels counts s t =
 
 -- behind fine tests: the least sum of joins over ranks found in both rows; "none" if no rank is shared
 unfoldable pub answered : Verdict → Best → Answer
-answered Fine Nowhere = answers.None
-answered Fine (Meet m) = answers.Joins m.sum
-answered (Refused r) best = answers.Refused r
+answered (Ok _) None = Ok None
+answered (Ok _) (Some m) = Ok (Some m.sum)
+answered (Err r) best = Err r
 
 -- the answer for (s,t); for s = t it is read from the row as for any pair
 unfoldable pub pair_of : ℕ → ℕ → List ℕ → List ℕ → ℕ → ℕ → Answer
@@ -33,12 +32,12 @@ pair_of n w labels counts s t =
 
 -- the paper's numbers: whether a rank is shared, 1 or 0, and the joins
 unfoldable pub pair_told : Answer → Told
-pair_told (answers.Joins j) = gives (1 ∷ j ∷ [])
-pair_told answers.None = gives (0 ∷ 0 ∷ [])
-pair_told (answers.Refused r) = refuses r 2
+pair_told (Ok (Some j)) = gives (1 ∷ j ∷ [])
+pair_told (Ok None) = gives (0 ∷ 0 ∷ [])
+pair_told (Err r) = refuses r 2
 
 -- what an answer says: its joins, or none
 unfoldable pub said_of : Answer → Count
-said_of (answers.Joins j) = joins j
-said_of answers.None = none
-said_of (answers.Refused r) = none
+said_of (Ok (Some j)) = joins j
+said_of (Ok None) = none
+said_of (Err r) = none

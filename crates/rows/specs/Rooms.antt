@@ -4,8 +4,7 @@ use Rattle.std.specs.Prelude.{ℕ, ◌+◌, ◌-◌, ◌*◌, Bool, cond, not, �
 use Rattle.basics.specs.Places.{some, sum}
 use Rattle.refusal.specs.Numbers.{SIZE, LENGTH, FRAME, ROW}
 use Rattle.refusal.specs.Sizes.{most_frames, most_width, sizes_fit}
-use Rattle.refusal.specs.Tests.{test, ◌then◌, lowest_test}
-use Rattle.refusal.specs.declared.Verdict.{Verdict}
+use Rattle.refusal.specs.Tests.{test, ◌then◌, lowest_test, Verdict}
 use Rattle.entry.specs.Entry.{rank_of, joins_of}
 
 -- the label room has n * W places, the count room n

@@ -1,12 +1,14 @@
 -- Spread: twice the largest joins among used entries of rank 0, or 0 if there is none.
-use Rattle.std.specs.Prelude.{ℕ, zero, suc, ◌*◌, max, cond, List, [], ◌∷◌, eqb}
-use Rattle.refusal.specs.declared.Verdict.{Verdict}
-use Rattle.refusal.specs.declared.Verdict.TheVariants as verdicts
+use Rattle.refusal.specs.declared.Refusal.{Refusal}
+use Rattle.refusal.specs.Tests.{Verdict}
+use Rattle.std.specs.Prelude.{ℕ, zero, suc, ◌*◌, max, cond, List, [], ◌∷◌, eqb, Ok, Err, Result}
 use Rattle.refusal.specs.Told.{Told, gives, refuses}
 use Rattle.entry.specs.Entry.{rank_of, joins_of}
 use Rattle.rows.specs.Rooms.{row_at, check_rows}
-use Rattle.rows.specs.declared.spread.SpreadAnswer.{SpreadAnswer}
-use Rattle.rows.specs.declared.spread.SpreadAnswer.TheVariants.{Spread, Refused}
+
+-- the spread, or a refusal
+abbrev pub SpreadAnswer : Type 0
+SpreadAnswer = Result ℕ Refusal
 
 -- the joins of an entry of rank 0; 0 for any other
 unfoldable pub joins_at_zero : ℕ → ℕ
@@ -28,8 +30,8 @@ spread_figure n w labels counts = 2 * farthest w labels counts n
 
 -- behind fine tests: the spread
 unfoldable pub spread_by : Verdict → ℕ → SpreadAnswer
-spread_by verdicts.Fine spread = Spread spread
-spread_by (verdicts.Refused r) spread = Refused r
+spread_by (Ok _) spread = Ok spread
+spread_by (Err r) spread = Err r
 
 -- spread: 1, 2, 9 (lowest frame)
 unfoldable pub spread_of : ℕ → ℕ → List ℕ → List ℕ → SpreadAnswer
@@ -37,5 +39,5 @@ spread_of n w labels counts = spread_by (check_rows n w n labels counts) (spread
 
 -- the paper's numbers: the spread
 unfoldable pub spread_told : SpreadAnswer → Told
-spread_told (Spread d) = gives (d ∷ [])
-spread_told (Refused r) = refuses r 1
+spread_told (Ok d) = gives (d ∷ [])
+spread_told (Err r) = refuses r 1

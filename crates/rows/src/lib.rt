@@ -4,8 +4,7 @@
 
 mod asked;
 pub mod check;
-mod cut;
-mod farthest;
+pub mod cut;
 pub mod lookup;
 mod merge;
 pub mod pair;

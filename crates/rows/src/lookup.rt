@@ -3,10 +3,8 @@ ghost use Rattle.std.specs.Prelude.{◌≡◌, ◌+◌, ◌*◌};
 ghost use Rattle.entry.specs.Entry.{entry_bytes};
 ghost use Rattle.rows.specs.Lookup.{row_of, row_start};
 
-use crate::check::check_row;
-use crate::cut::cut;
+use crate::asked::row_asked;
 use entry::Entry;
-use refusal::Verdict;
 
 // The used part of the row of v, and the empty part at the room's front where the row check refuses.
 pub fn row<'a, 'b>(
@@ -24,10 +22,5 @@ pub fn row<'a, 'b>(
               + labels.entry.ref_ptr.1,
         ) }
 {
-    let asked = check_row(n, w, labels, counts, v);
-    let Verdict::Fine = asked else {
-        return &labels[0..0];
-    };
-    let count = counts[v] as usize;
-    cut(labels, w, v, count)
+    row_asked(n, w, labels, counts, v).unwrap_or(&labels[0..0])
 }

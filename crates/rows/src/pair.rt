@@ -3,30 +3,23 @@
 ghost use Rattle.std.specs.Prelude.{◌≡◌};
 ghost use Rattle.rows.specs.Pair.{pair_of, pair_told};
 
-use crate::asked::check_pair;
-use crate::merge::{Best, meet};
+use crate::asked::rows_asked;
+use crate::merge::merge;
 use entry::Entry;
-use refusal::{Refusal, Verdict};
+use refusal::Refusal;
 
-// What the pair question gives back: a number of joins, none where no rank is shared, or a refusal.
-#[derive(Clone, Copy)]
-pub enum Answer {
-    Joins(usize),
-    None,
-    Refused(Refusal),
-}
-
-// The answer for (s,t).
-pub fn pair(n: usize, w: usize, labels: &[Entry], counts: &[u32], s: usize, t: usize) -> Answer
+// The answer for (s,t): a number of joins, none where no rank is shared, or a refusal.
+pub fn pair(
+    n: usize,
+    w: usize,
+    labels: &[Entry],
+    counts: &[u32],
+    s: usize,
+    t: usize,
+) -> Result<Option<usize>, Refusal>
     ensures answer { result ≡ pair_of n w labels.now counts.now s t }
     ensures numbers { pair_told result ≡ pair_told (pair_of n w labels.now counts.now s t) }
 {
-    let asked = check_pair(n, w, labels, counts, s, t);
-    if let Verdict::Refused(refusal) = asked {
-        return Answer::Refused(refusal);
-    }
-    match meet(w, labels, counts, s, t) {
-        Best::Nowhere => Answer::None,
-        Best::Meet(best) => Answer::Joins(best.sum),
-    }
+    let (first, second) = rows_asked(n, w, labels, counts, s, t)?;
+    Ok(merge(first, second).map(|best| best.sum))
 }

@@ -5,23 +5,18 @@ ghost use Rattle.rows.specs.Rooms.{in_room, part_of, part_start};
 
 use crate::cut::cut;
 use entry::Entry;
+use refusal::sizes::{MOST_FRAMES, MOST_WIDTH};
 
 // Whether `count` entries of row v lie in the room. A room has at most 4,096 rows, so that frame numbers are below that,
 // each at most 256 wide, so that no product wraps.
 fn in_room(labels: &[Entry], w: usize, v: usize, count: usize) -> bool
     ensures { result ≡ in_room w labels.now v count }
 {
-    if refusal::sizes::MOST_FRAMES <= v {
-        return false;
-    }
-    if refusal::sizes::MOST_WIDTH < w {
+    if MOST_FRAMES <= v || MOST_WIDTH < w {
         return false;
     }
     let start = v * w;
-    if labels.len() < start {
-        return false;
-    }
-    count <= labels.len() - start
+    start <= labels.len() && count <= labels.len() - start
 }
 
 // The first `count` entries of row v, and the empty part at the room's front where they do not lie in the room.
@@ -34,9 +29,9 @@ pub fn row_part(labels: &[Entry], w: usize, v: usize, count: usize) -> &[Entry]
               + labels.entry.ref_ptr.1,
         ) }
 {
-    let lies = in_room(labels, w, v, count);
-    if !lies {
-        return &labels[0..0];
+    if in_room(labels, w, v, count) {
+        cut(labels, w, v, count)
+    } else {
+        &labels[0..0]
     }
-    cut(labels, w, v, count)
 }

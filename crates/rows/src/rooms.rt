@@ -6,26 +6,19 @@ ghost use Rattle.refusal.specs.Sizes.{most_frames};
 ghost use Rattle.rows.specs.Rooms.{room_tests, total_of};
 
 use entry::Entry;
-use refusal;
-use refusal::{LENGTH, SIZE, Verdict};
+use refusal::{Reason, Refusal, test};
 
 // 1 and 2 for a label room and a count room.
-pub fn check_rooms(n: usize, w: usize, labels: &[Entry], counts: &[u32]) -> Verdict
+pub fn check_rooms(n: usize, w: usize, labels: &[Entry], counts: &[u32]) -> Result<(), Refusal>
     ensures answer { result ≡ room_tests n w labels.now counts.now }
     ensures numbers { verdict_told result ≡ verdict_told (room_tests n w labels.now counts.now) }
 {
-    let sizes = refusal::sizes::sizes_fit(n, w);
-    if !sizes {
-        return refusal::refused(SIZE, 0);
-    }
-    let label_places = n * w;
-    if labels.len() != label_places {
-        return refusal::refused(LENGTH, 0);
-    }
-    if counts.len() != n {
-        return refusal::refused(LENGTH, 0);
-    }
-    Verdict::Fine
+    test(refusal::sizes::sizes_fit(n, w), Reason::Size, 0)?;
+    test(
+        labels.len() == n * w && counts.len() == n,
+        Reason::Length,
+        0,
+    )
 }
 
 // The sum of all counts; 0 for a room of over 4,096, which no index has.
@@ -35,12 +28,5 @@ pub fn total(counts: &[u32]) -> usize
     if refusal::sizes::MOST_FRAMES < counts.len() {
         return 0;
     }
-    let mut entries: usize = 0;
-    let mut v: usize = 0;
-    while v < counts.len() {
-        let count = counts[v] as usize;
-        entries += count;
-        v += 1;
-    }
-    entries
+    counts.iter().map(|count| *count as usize).sum()
 }

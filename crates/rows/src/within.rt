@@ -1,71 +1,32 @@
 // Within so many joins? The walk along the two rows, whose turns are the merge's, stops at the first shared rank whose sum is at
 // most the limit: the turn that finds it is the last.
 ghost use Rattle.std.specs.Prelude.{◌≡◌, ◌<◌};
-ghost use Rattle.rows.specs.Inner.{clipped_to, no_sum, Rises, RowIn, some_within};
+ghost use Rattle.rows.specs.Inner.{no_sum, Rises, some_within};
 ghost use Rattle.rows.specs.Meetings.{meetings};
-ghost use Rattle.rows.specs.Rooms.{row_at};
 ghost use Rattle.rows.specs.Within.{within_of, within_told};
 
-use crate::asked::check_pair;
-use crate::cut::cut;
-use crate::merge::{NO_SUM, at_rank, step_past};
-use entry::{Entry, joins_of, rank_of};
-use refusal::{Refusal, Verdict};
-
-// What the question gives back: yes, no, or a refusal.
-#[derive(Clone, Copy)]
-pub enum WithinAnswer {
-    Yes,
-    No,
-    Refused(Refusal),
-}
+use crate::asked::rows_asked;
+use crate::merge::{NO_SUM, Turn};
+use entry::Entry;
+use refusal::Refusal;
 
 // Whether some rank in both rows has a sum of at most the limit.
 fn walk(a: &[Entry], b: &[Entry], limit: usize) -> bool
     requires { Rises a.now × Rises b.now × (limit < no_sum) }
     ensures { result ≡ some_within limit (meetings a.now b.now) }
 {
-    let mut i: usize = 0;
-    let mut j: usize = 0;
-    while i < a.len() {
-        if b.len() <= j {
-            return false;
-        }
-        let e = a[i];
-        let f = b[j];
-        let rank = rank_of(e);
-        let other = rank_of(f);
-        let sum = at_rank(rank, other, joins_of(e) + joins_of(f));
-        if sum <= limit {
+    let mut i = 0;
+    let mut j = 0;
+    // Two cursors that move by what they meet, as in the merge.
+    while i < a.len() && j < b.len() {
+        let turn = Turn::of(a[i], b[j]);
+        if turn.meeting.sum <= limit {
             return true;
         }
-        i += step_past(rank, other);
-        j += step_past(other, rank);
+        i += turn.first;
+        j += turn.second;
     }
     false
-}
-
-// A limit that no missing meeting is within.
-fn clipped(limit: usize) -> usize
-    ensures { result ≡ clipped_to limit }
-{
-    if limit < NO_SUM {
-        return limit;
-    }
-    NO_SUM - 1
-}
-
-// The walk along the rows of two frames.
-fn walk_rows(w: usize, labels: &[Entry], counts: &[u32], s: usize, t: usize, limit: usize) -> bool
-    requires { RowIn w labels.now counts.now s × RowIn w labels.now counts.now t × (limit < no_sum) }
-    ensures { result
-        ≡ some_within limit
-        (meetings (row_at w labels.now counts.now s)
-        (row_at w labels.now counts.now t)) }
-{
-    let first = cut(labels, w, s, counts[s] as usize);
-    let second = cut(labels, w, t, counts[t] as usize);
-    walk(first, second, limit)
 }
 
 // Whether (s,t) has an answer of at most the limit.
@@ -77,17 +38,12 @@ pub fn within(
     s: usize,
     t: usize,
     limit: usize,
-) -> WithinAnswer
+) -> Result<bool, Refusal>
     ensures answer { result ≡ within_of n w labels.now counts.now s t limit }
     ensures numbers { within_told result
         ≡ within_told (within_of n w labels.now counts.now s t limit) }
 {
-    let asked = check_pair(n, w, labels, counts, s, t);
-    if let Verdict::Refused(refusal) = asked {
-        return WithinAnswer::Refused(refusal);
-    }
-    if walk_rows(w, labels, counts, s, t, clipped(limit)) {
-        return WithinAnswer::Yes;
-    }
-    WithinAnswer::No
+    let (first, second) = rows_asked(n, w, labels, counts, s, t)?;
+    // Below the sum that stands for no meeting.
+    Ok(walk(first, second, limit.min(NO_SUM - 1)))
 }

@@ -11,9 +11,7 @@ use Rattle.basics.specs.Places.{first}
 use Rattle.basics.proofs.Laws.{count_ext, table_ext, least_ext, first_ext}
 use Rattle.refusal.specs.Numbers.{SIZE, LENGTH, ROW}
 use Rattle.refusal.specs.Sizes.{sizes_fit}
-use Rattle.refusal.specs.Tests.{if_fine, test, ◌then◌, tests_from}
-use Rattle.refusal.specs.declared.Verdict.{Verdict}
-use Rattle.refusal.specs.declared.Verdict.TheVariants as verdicts
+use Rattle.refusal.specs.Tests.{if_fine, test, ◌then◌, tests_from, Verdict, fine}
 use Rattle.refusal.proofs.Laws.{tests_ext, vcase}
 use Rattle.rows.specs.Meetings.{meeting_of}
 use Rattle.rows.specs.Pair.{answered, said_of}
@@ -38,7 +36,7 @@ joins_by : (w : ℕ) (labels counts labels' counts' fs : List ℕ) (v i : ℕ)
     → row_at w labels counts (get_or fs i 0) ≡ row_at w labels' counts' (get_or fs i 0)
     → joins_to w labels counts fs v i ≡ joins_to w labels' counts' fs v i
 unfolding joins_to
-joins_by w labels counts labels' counts' fs v i p q = λ j. number_said (said_of (answered verdicts.Fine (meeting_of (p j) (q j))))
+joins_by w labels counts labels' counts' fs v i p q = λ j. number_said (said_of (answered fine (meeting_of (p j) (q j))))
 
 -- ---- the nearest target
 

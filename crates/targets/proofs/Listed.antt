@@ -1,5 +1,6 @@
 -- The records taken apart answer as the records do: up to sixteen their frames are the same list, and of more only their
 -- number is looked at.
+use Rattle.std.specs.Prelude.{Err}
 use Prim.Native.Nat.{ℕ, zero, suc, ◌≤◌, ◌<◌}
 use mathlib.Core.Path.{◌≡◌, refl, sym, ap, ◌∙◌}
 use mathlib.Core.List.{List, [], ◌∷◌}
@@ -10,15 +11,12 @@ use lib.Dec.{leb}
 use Rattle.basics.specs.Places.{table}
 use Rattle.basics.proofs.Laws.{bcase, is_table, get_d_table}
 use Rattle.refusal.specs.Numbers.{SIZE}
-use Rattle.refusal.specs.Tests.{if_fine, refusal}
-use Rattle.refusal.specs.declared.Verdict.{Verdict}
-use Rattle.refusal.specs.declared.Verdict.TheVariants.{Refused}
+use Rattle.refusal.specs.Tests.{refusal, Verdict}
 use Rattle.refusal.proofs.Laws.{after_refused}
 use Rattle.targets.specs.Inner.{frame_at, frames_in, listed_of}
 use Rattle.targets.specs.Nearest.{nearest_by, nearest_of, nearest_place, nearest_tests}
 use Rattle.targets.specs.Sixteen.{sixteen_by, sixteen_counts, sixteen_of, sixteen_tests}
 use Rattle.targets.specs.Targets.{fewest_joins, frames_of, most_targets}
-use Rattle.targets.specs.declared.nearest.NearestTarget.TheVariants as nearest
 use Rattle.targets.specs.declared.record.Target.{Target}
 use Rattle.targets.proofs.TestLaws.{rooms_many, length_in}
 
@@ -48,15 +46,15 @@ frames_listed ts few =
 
 -- more records are refused by their number, whatever the rest is
 pub nearest_many : (n w : ℕ) (labels counts : List ℕ) (asked : ℕ) (fs : List ℕ) → most_targets < length fs
-    → nearest_of n w labels counts asked fs ≡ nearest.Refused (refusal SIZE 0)
+    → nearest_of n w labels counts asked fs ≡ Err (refusal SIZE 0)
 unfolding nearest_of nearest_tests nearest_by
 nearest_many n w labels counts asked fs many =
     ap (λ (v : Verdict). nearest_by v (fewest_joins w labels counts fs asked) (nearest_place w labels counts asked fs))
     (after_refused _ (rooms_many n w labels counts fs many))
 
 pub sixteen_many : (n w : ℕ) (labels counts fs : List ℕ) → most_targets < length fs
-    → sixteen_of n w labels counts fs ≡ sixteen_by (Refused (refusal SIZE 0)) []
-unfolding sixteen_of sixteen_tests sixteen_by if_fine
+    → sixteen_of n w labels counts fs ≡ Err (refusal SIZE 0)
+unfolding sixteen_of sixteen_tests sixteen_by
 sixteen_many n w labels counts fs many =
     ap (λ (v : Verdict). sixteen_by v (sixteen_counts n w labels counts fs))
     (after_refused _ (rooms_many n w labels counts fs many))

@@ -1,5 +1,7 @@
 -- The answers in the paper's words: joins are what the pair question answers, and the record named is the first of those with
 -- the fewest.
+use Rattle.refusal.specs.Tests.{Verdict, fine}
+use Rattle.std.specs.Prelude.{Ok, Some, None}
 use Prim.Native.Nat.{ℕ, ◌+◌, ◌≤◌, ◌<◌}
 use mathlib.Core.Path.{◌≡◌, refl, sym, ap, ◌∙◌}
 use mathlib.Core.Logic.{◌⊎◌, inl, inr}
@@ -11,8 +13,6 @@ use lib.ListN.{length, get_or}
 use lib.Dec.{eqb}
 use Rattle.basics.specs.Places.{least, first}
 use Rattle.basics.proofs.Laws.{lt_or_ge, least_le, least_found, first_marked, first_before, not_both}
-use Rattle.refusal.specs.declared.Verdict.{Verdict}
-use Rattle.refusal.specs.declared.Verdict.TheVariants.{Fine}
 use Rattle.refusal.proofs.Laws.{after_fine, tests_fine}
 use Rattle.theory.specs.Distance.{said}
 use Rattle.rows.specs.Inner.{Rooms}
@@ -25,7 +25,6 @@ use Rattle.targets.specs.Inner.{FramesIn}
 use Rattle.targets.specs.Nearest.{nearest_tests, nearest_place, nearest_by, nearest_of}
 use Rattle.targets.specs.Sixteen.{sixteen_tests}
 use Rattle.targets.specs.Targets.{apart, joins_to, fewest_joins, records_test}
-use Rattle.targets.specs.declared.nearest.NearestTarget.TheVariants as nearest
 use Rattle.targets.proofs.ByRank.{joins_answer}
 use Rattle.targets.proofs.TestLaws.{NearestAsked, SixteenAsked, rooms_few, nearest_on, sixteen_on}
 
@@ -78,9 +77,9 @@ module _ (w : ℕ) (labels counts : List ℕ) (asked : ℕ) (fs : List ℕ) wher
   none_near h j l = omega (arith, least_le apart (length fs) (joins_to w labels counts fs asked) j l)
 
   -- behind fine tests the answer is that record's place, and none where there is none
-  pub nearest_literal : (n : ℕ) → nearest_tests n w labels counts asked fs ≡ Fine
-      → ((i : ℕ) × (nearest_of n w labels counts asked fs ≡ nearest.Record i) × FirstOfFewest i)
-      ⊎ ((nearest_of n w labels counts asked fs ≡ nearest.None)
+  pub nearest_literal : (n : ℕ) → nearest_tests n w labels counts asked fs ≡ fine
+      → ((i : ℕ) × (nearest_of n w labels counts asked fs ≡ Ok (Some i)) × FirstOfFewest i)
+      ⊎ ((nearest_of n w labels counts asked fs ≡ Ok None)
       × ((j : ℕ) → j < length fs → apart ≤ joins_to w labels counts fs asked j))
   unfolding nearest_of nearest_by
   nearest_literal n e =
@@ -92,12 +91,12 @@ module _ (w : ℕ) (labels counts : List ℕ) (asked : ℕ) (fs : List ℕ) wher
 
 -- ---- what the tests let through, they do not refuse
 
-pub records_fine : (n : ℕ) (fs : List ℕ) → FramesIn n fs → records_test n fs ≡ Fine
+pub records_fine : (n : ℕ) (fs : List ℕ) → FramesIn n fs → records_test n fs ≡ fine
 unfolding records_test
 records_fine n fs frames = tests_fine _ (length fs) (λ i h. frame_fine (i + 1) (frames.low i h))
 
 pub nearest_passes : {n w : ℕ} {labels counts : List ℕ} {asked : ℕ} {fs : List ℕ} → NearestAsked n w labels counts asked fs
-    → nearest_tests n w labels counts asked fs ≡ Fine
+    → nearest_tests n w labels counts asked fs ≡ fine
 nearest_passes {n} {w} {labels} {counts} {asked} {fs} a =
     nearest_on n w labels counts asked fs (rooms_few n w labels counts fs a.frames.few ∙ rooms_fine a.rooms) a.inside
     ∙ after_fine _ (records_fine n fs a.frames)
@@ -105,7 +104,7 @@ nearest_passes {n} {w} {labels} {counts} {asked} {fs} a =
     ∙ tests_fine _ (length fs) (λ i h. row_fine n w labels counts (get_or fs i 0) (a.sound i h))
 
 pub sixteen_passes : {n w : ℕ} {labels counts fs : List ℕ} → SixteenAsked n w labels counts fs
-    → sixteen_tests n w labels counts fs ≡ Fine
+    → sixteen_tests n w labels counts fs ≡ fine
 sixteen_passes {n} {w} {labels} {counts} {fs} a =
     sixteen_on n w labels counts fs (rooms_few n w labels counts fs a.frames.few ∙ rooms_fine a.rooms)
     ∙ after_fine _ (records_fine n fs a.frames)

@@ -1,5 +1,7 @@
 -- The laws of the nearest target: the first place of the fewest joins as it is found record by record, that the asked frame's
 -- row noted by rank finds the pair question's answers.
+use Rattle.refusal.specs.Tests.{Verdict, fine}
+use Rattle.std.specs.Prelude.{Ok, Err, Some, None}
 use Prim.Native.Nat.{ℕ, ◌+◌, ◌≤◌, ◌<◌, min}
 use mathlib.Core.Path.{◌≡◌, refl, sym, ap, subst, ◌∙◌}
 use mathlib.Core.Bool.{Bool}
@@ -12,8 +14,6 @@ use lib.Dec.{eqb}
 use Rattle.basics.specs.Places.{first, least}
 use Rattle.basics.proofs.Laws.{cond_true, cond_false, first_is, least_le, least_ext, first_ext}
 use Rattle.refusal.specs.declared.Refusal.{Refusal}
-use Rattle.refusal.specs.declared.Verdict.{Verdict}
-use Rattle.refusal.specs.declared.Verdict.TheVariants as verdicts
 use Rattle.theory.specs.Rows.{Row, at, answer}
 use Rattle.entry.specs.Entry.{decode}
 use Rattle.rows.specs.Rooms.{part_of, row_at}
@@ -21,10 +21,8 @@ use Rattle.rows.proofs.Laws.{row_sound}
 use Rattle.rows.proofs.PairLaws.{sound_whole}
 use Rattle.rows.proofs.RoomLaws.{part_is_row}
 use Rattle.targets.specs.Inner.{NotedLow, RanksIn, RowsKnown, first_reached, noted_in, reach_to}
-use Rattle.targets.specs.Nearest.{nearest_by, nearest_of, nearest_place, nearest_tests}
+use Rattle.targets.specs.Nearest.{nearest_by, nearest_of, nearest_place, nearest_tests, NearestTarget}
 use Rattle.targets.specs.Targets.{apart, fewest_joins, joins_to}
-use Rattle.targets.specs.declared.nearest.NearestTarget.{NearestTarget}
-use Rattle.targets.specs.declared.nearest.NearestTarget.TheVariants as nearest
 use Rattle.targets.proofs.ByRank.{blank_at, blank_low, joins_answer, noted_at, noted_long, noted_low, reach_least, row_known}
 use Rattle.targets.proofs.TestLaws.{NearestAsked, nearest_asked}
 
@@ -76,10 +74,10 @@ module _ {f : ℕ → ℕ} {fewest place k : ℕ} (found : Fewest f fewest place
 -- the answer on such numbers
 abbrev pub by_first : ℕ → (ℕ → ℕ) → NearestTarget
 by_first k f =
-    nearest_by verdicts.Fine (least apart k f) (first (λ i. eqb (f i) (least apart k f)) 0 k)
+    nearest_by fine (least apart k f) (first (λ i. eqb (f i) (least apart k f)) 0 k)
 
 module _ {f : ℕ → ℕ} {fewest place k : ℕ} (found : Fewest f fewest place k) where
-  fewest_record : fewest < apart → nearest.Record place ≡ by_first k f
+  fewest_record : fewest < apart → (Ok (Some place)) ≡ by_first k f
   unfolding nearest_by
   fewest_record h =
       let at = found.first h in
@@ -89,21 +87,21 @@ module _ {f : ℕ → ℕ} {fewest place k : ℕ} (found : Fewest f fewest place
       (λ j _ l. ne_eqb (f j) _ (omega (arith, at.before j l, found.least))) in
       sym
       (cond_true _ _ (lt-ltb (least apart k f) apart (omega (arith, found.least)))
-      ∙ ap nearest.Record there)
+      ∙ ap (λ (p : ℕ). Ok (Some p)) there)
 
-  fewest_not : apart ≤ fewest → nearest.None ≡ by_first k f
+  fewest_not : apart ≤ fewest → (Ok None) ≡ by_first k f
   unfolding nearest_by
   fewest_not h = sym (cond_false _ _ (le-ltb (least apart k f) apart (omega (arith, found.least))))
 
 -- by what is noted
 module _ (w : ℕ) (labels counts fs noted : List ℕ) {fewest place k : ℕ} (all : k ≡ length fs)
     (found : Fewest (reach_to w labels counts fs noted) fewest place k) where
-  pub reached_record : fewest < apart → nearest.Record place ≡ first_reached w labels counts fs noted
+  pub reached_record : fewest < apart → (Ok (Some place)) ≡ first_reached w labels counts fs noted
   unfolding first_reached
   reached_record h =
       fewest_record found h ∙ ap (λ (j : ℕ). by_first j (reach_to w labels counts fs noted)) all
 
-  pub reached_none : apart ≤ fewest → nearest.None ≡ first_reached w labels counts fs noted
+  pub reached_none : apart ≤ fewest → (Ok None) ≡ first_reached w labels counts fs noted
   unfolding first_reached
   reached_none h =
       fewest_not found h ∙ ap (λ (j : ℕ). by_first j (reach_to w labels counts fs noted)) all
@@ -115,7 +113,7 @@ by_first_ext k f g same =
     let fewest : least apart k f ≡ least apart k g = least_ext apart k f g same in
     let place : first (λ i. eqb (f i) (least apart k f)) 0 k ≡ first (λ i. eqb (g i) (least apart k g)) 0 k =
     first_ext _ _ 0 k (λ j _ h. λ i. eqb (same j (omega arith) i) (fewest i)) in
-    λ i. nearest_by verdicts.Fine (fewest i) (place i)
+    λ i. nearest_by fine (fewest i) (place i)
 
 at_most : (x : Row) (r : ℕ) → at apart x r ≤ apart
 unfolding at
@@ -172,20 +170,20 @@ reach_joins {n} {w} {labels} {counts} {asked} {fs} a i h =
 -- ---- the answer
 
 module _ (n w : ℕ) (labels counts : List ℕ) (asked : ℕ) (fs : List ℕ) where
-  pub nearest_refused : {r : Refusal} → nearest_tests n w labels counts asked fs ≡ verdicts.Refused r
-      → nearest_of n w labels counts asked fs ≡ nearest.Refused r
+  pub nearest_refused : {r : Refusal} → nearest_tests n w labels counts asked fs ≡ Err r
+      → nearest_of n w labels counts asked fs ≡ Err r
   unfolding nearest_of nearest_by
   nearest_refused e =
       ap (λ (v : Verdict). nearest_by v (fewest_joins w labels counts fs asked) (nearest_place w labels counts asked fs)) e
 
-  pub fine_answer : nearest_tests n w labels counts asked fs ≡ verdicts.Fine
+  pub fine_answer : nearest_tests n w labels counts asked fs ≡ fine
       → nearest_of n w labels counts asked fs ≡ by_first (length fs) (joins_to w labels counts fs asked)
   unfolding nearest_of nearest_place fewest_joins
   fine_answer e =
       ap (λ (v : Verdict). nearest_by v (fewest_joins w labels counts fs asked) (nearest_place w labels counts asked fs)) e
 
   -- the first record of fewest joins to the asked frame's row noted
-  pub nearest_reached : {row noted : List ℕ} → nearest_tests n w labels counts asked fs ≡ verdicts.Fine
+  pub nearest_reached : {row noted : List ℕ} → nearest_tests n w labels counts asked fs ≡ fine
       → row ≡ row_at w labels counts asked → noted ≡ noted_in row (replicate 4096 apart)
       → first_reached w labels counts fs noted ≡ nearest_of n w labels counts asked fs
   unfolding first_reached

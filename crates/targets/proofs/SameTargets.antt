@@ -11,12 +11,10 @@ use contract.Monad.{Fun, fact}
 use denote.Triple.Clauses.{AtExit}
 use denote.Triple.Entry.{Args}
 use Rattle.targets.specs.Inner.{listed_of}
-use Rattle.targets.specs.Nearest.{nearest_of, nearest_told}
-use Rattle.targets.specs.Sixteen.{sixteen_of, sixteen_told}
+use Rattle.targets.specs.Nearest.{nearest_of, nearest_told, NearestTarget}
+use Rattle.targets.specs.Sixteen.{sixteen_of, sixteen_told, SixteenCounts}
 use Rattle.targets.specs.Targets.{frames_of}
-use Rattle.targets.specs.declared.nearest.NearestTarget.{NearestTarget}
 use Rattle.targets.specs.declared.record.Listed.{Listed}
-use Rattle.targets.specs.declared.sixteen.SixteenCounts.{SixteenCounts}
 use Rattle.targets.specs.contracts.nearest.nearest as nearest
 use Rattle.targets.specs.contracts.record.take_apart as take-apart
 use Rattle.targets.specs.contracts.sixteen.sixteen as sixteen

@@ -1,5 +1,6 @@
 -- The laws of the sixteen counts: with the rows of all records noted by rank, a frame's row read against the table finds the
 -- fewest joins to any record; and one frame more raises one count.
+use Rattle.std.specs.Prelude.{Ok, Err}
 use Prim.Native.Nat.{ℕ, zero, suc, ◌+◌, ◌≤◌, ◌<◌, min}
 use mathlib.Core.Path.{◌≡◌, refl, sym, ap, ◌∙◌}
 use mathlib.Core.List.{List, [], ◌∷◌}
@@ -12,16 +13,14 @@ use lib.Dec.{ltb}
 use lib.Seq.{drop-cons}
 use Rattle.basics.specs.Places.{count, least, some, table, sum}
 use Rattle.basics.proofs.Laws.{bcase, lt_or_ge, cond_true, cond_false, at_set, count_none, count_hit, count_miss, count_most, count_ext, least_most, least_le, least_ge, least_found, length_table, get_d_table, is_table, table_ext, least_ext, some_one, some_none}
-use Rattle.refusal.specs.Tests.{if_fine}
+use Rattle.refusal.specs.Tests.{Verdict, fine}
 use Rattle.refusal.specs.declared.Refusal.{Refusal}
-use Rattle.refusal.specs.declared.Verdict.{Verdict}
-use Rattle.refusal.specs.declared.Verdict.TheVariants.{Fine, Refused}
 use Rattle.theory.specs.Rows.{at, answer}
 use Rattle.entry.specs.Entry.{rank_of, decode}
 use Rattle.rows.specs.Rooms.{part_of, row_at}
 use Rattle.rows.proofs.PairLaws.{sound_whole}
 use Rattle.targets.specs.Inner.{noted_in, reach_of, NotedLow, RanksIn, RowKnown, RowsKnown, AllKnown, noted_rows, raised_at, RaiseIn, reached_counts}
-use Rattle.targets.specs.Sixteen.{counted_at, sixteen_by, sixteen_counts, sixteen_of, sixteen_tests}
+use Rattle.targets.specs.Sixteen.{sixteen_told, counted_at, sixteen_by, sixteen_counts, sixteen_of, sixteen_tests}
 use Rattle.targets.specs.Targets.{apart, joins_to, fewest_joins}
 use Rattle.targets.proofs.ByRank.{noted_long, noted_at, noted_low, blank_at, blank_low, reach_least, joins_answer, row_known, part_known}
 use Rattle.targets.proofs.TestLaws.{SixteenAsked, sixteen_asked}
@@ -179,27 +178,22 @@ module _ {n w : ℕ} {labels counts fs : List ℕ} (asked : SixteenAsked n w lab
 -- ---- the answer
 
 pub asked_by : (n w : ℕ) (labels counts fs : List ℕ) {verdict : Verdict} → verdict ≡ sixteen_tests n w labels counts fs
-    → verdict ≡ Fine → SixteenAsked n w labels counts fs
+    → verdict ≡ fine → SixteenAsked n w labels counts fs
 asked_by n w labels counts fs told fine = sixteen_asked n w labels counts fs (sym told ∙ fine)
 
--- by the tests' verdict
-module _ (n w : ℕ) (labels counts fs : List ℕ) {verdict : Verdict} {made : List ℕ} where
-  pub sixteen_fine : verdict ≡ sixteen_tests n w labels counts fs → verdict ≡ Fine → made ≡ sixteen_counts n w labels counts fs
-      → record { verdict = verdict; counts = made } ≡ sixteen_of n w labels counts fs
-  unfolding sixteen_of sixteen_by if_fine
-  sixteen_fine told fine e =
-      let by : if_fine (sixteen_tests n w labels counts fs) (sixteen_counts n w labels counts fs) (replicate 16 0)
-      ≡ sixteen_counts n w labels counts fs =
-      ap (λ (v : Verdict). if_fine v (sixteen_counts n w labels counts fs) (replicate 16 0)) (sym told ∙ fine) in
-      λ i. record { verdict = told i; counts = (e ∙ sym by) i }
+-- behind fine tests
+pub sixteen_fine : (n w : ℕ) (labels counts fs : List ℕ) {verdict : Verdict} {made : List ℕ} → verdict ≡ sixteen_tests n w labels counts fs
+    → verdict ≡ fine → made ≡ sixteen_counts n w labels counts fs → Ok made ≡ sixteen_of n w labels counts fs
+unfolding sixteen_of sixteen_by
+sixteen_fine n w labels counts fs told fine e =
+    ap Ok e ∙ sym (ap (λ (v : Verdict). sixteen_by v (sixteen_counts n w labels counts fs)) (sym told ∙ fine))
 
-  pub sixteen_refused : {r : Refusal} → verdict ≡ sixteen_tests n w labels counts fs → verdict ≡ Refused r → made ≡ replicate 16 0
-      → record { verdict = verdict; counts = made } ≡ sixteen_of n w labels counts fs
-  unfolding sixteen_of sixteen_by if_fine
-  sixteen_refused told refused e =
-      let by : if_fine (sixteen_tests n w labels counts fs) (sixteen_counts n w labels counts fs) (replicate 16 0) ≡ replicate 16 0 =
-      ap (λ (v : Verdict). if_fine v (sixteen_counts n w labels counts fs) (replicate 16 0)) (sym told ∙ refused) in
-      λ i. record { verdict = told i; counts = (e ∙ sym by) i }
+-- else the tests' refusal stands
+pub sixteen_refused : (n w : ℕ) (labels counts fs : List ℕ) {verdict : Verdict} {r : Refusal} → verdict ≡ sixteen_tests n w labels counts fs
+    → verdict ≡ Err r → Err r ≡ sixteen_of n w labels counts fs
+unfolding sixteen_of sixteen_by
+sixteen_refused n w labels counts fs told refused =
+    sym (ap (λ (v : Verdict). sixteen_by v (sixteen_counts n w labels counts fs)) (sym told ∙ refused))
 
 -- ---- one frame more
 
@@ -321,11 +315,11 @@ reached_some most k f =
     ∙ sym (some_none (λ i. ltb (f i) most) 0 k (λ i _ l. le-ltb (f i) most (omega (arith, least_le most k f i (omega arith))))))
 
 -- behind fine tests the counts handed back add up to the frames with joins to some record
-pub sixteen_reached : (n w : ℕ) (labels counts fs : List ℕ) → sixteen_tests n w labels counts fs ≡ Fine
-    → sum (sixteen_of n w labels counts fs).counts
+pub sixteen_reached : (n w : ℕ) (labels counts fs : List ℕ) → sixteen_tests n w labels counts fs ≡ fine
+    → sum (sixteen_told (sixteen_of n w labels counts fs)).values
     ≡ count (λ v. some (λ i. ltb (joins_to w labels counts fs v i) apart) 0 (length fs)) n
-unfolding sixteen_of sixteen_by if_fine fewest_joins
+unfolding sixteen_of sixteen_by sixteen_told fewest_joins
 sixteen_reached n w labels counts fs fine =
-    ap (λ (v : Verdict). sum (sixteen_by v (sixteen_counts n w labels counts fs)).counts) fine
+    ap (λ (v : Verdict). sum (sixteen_told (sixteen_by v (sixteen_counts n w labels counts fs))).values) fine
     ∙ sixteen_sum n w labels counts fs
     ∙ count_ext _ _ n (λ v h. reached_some apart (length fs) (joins_to w labels counts fs v))

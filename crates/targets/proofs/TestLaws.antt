@@ -1,4 +1,5 @@
 -- The laws of the tests of the questions on targets: the tests one by one, and what they let through.
+use Rattle.std.specs.Prelude.{Err}
 use Prim.Native.Nat.{ℕ, ◌+◌, ◌-◌, ◌≤◌, ◌<◌}
 use mathlib.Core.Path.{◌≡◌, ap, ◌∙◌}
 use mathlib.Core.Bool.{true}
@@ -10,10 +11,8 @@ use lib.Dec.{leb}
 use lib.Seq.{get_or-take, length-take-le}
 use Rattle.basics.proofs.Laws.{is_table, length_table}
 use Rattle.refusal.specs.Numbers.{SIZE, FRAME}
-use Rattle.refusal.specs.Tests.{test, ◌then◌, refusal, tests_from}
+use Rattle.refusal.specs.Tests.{test, ◌then◌, refusal, tests_from, Verdict, fine}
 use Rattle.refusal.specs.declared.Refusal.{Refusal}
-use Rattle.refusal.specs.declared.Verdict.{Verdict}
-use Rattle.refusal.specs.declared.Verdict.TheVariants.{Fine, Refused}
 use Rattle.refusal.proofs.Laws.{test_fine, test_refused, test_held, then_fine, after_fine, after_refused, tests_each}
 use Rattle.rows.specs.Inner.{Rooms}
 use Rattle.rows.specs.Rooms.{room_tests, frame_test, row_test, rows_test, sound_row, check_row}
@@ -37,7 +36,7 @@ record_row n w labels counts fs i = row_test n w n labels counts (get_or fs i 0)
 
 -- the rooms, and the number of records
 module _ (n w : ℕ) (labels counts fs : List ℕ) where
-  pub rooms_many : most_targets < length fs → target_rooms n w labels counts fs ≡ Refused (refusal SIZE 0)
+  pub rooms_many : most_targets < length fs → target_rooms n w labels counts fs ≡ Err (refusal SIZE 0)
   unfolding target_rooms
   rooms_many h = after_refused _ (test_refused SIZE 0 (lt-leb (length fs) most_targets h))
 
@@ -45,14 +44,14 @@ module _ (n w : ℕ) (labels counts fs : List ℕ) where
   unfolding target_rooms
   rooms_few h = after_fine _ (test_fine SIZE 0 (le-leb (length fs) most_targets h))
 
-  pub rooms_let : target_rooms n w labels counts fs ≡ Fine → Rooms n w labels counts × (length fs ≤ most_targets)
+  pub rooms_let : target_rooms n w labels counts fs ≡ fine → Rooms n w labels counts × (length fs ≤ most_targets)
   unfolding target_rooms
   rooms_let e =
       let (few, rooms) = then_fine (test (leb (length fs) most_targets) SIZE 0) _ e in
       (fine_rooms n w labels counts rooms, leb-true (length fs) most_targets (test_held _ SIZE 0 few))
 
 -- behind them, the records' frames
-pub frames_let : (n : ℕ) (fs : List ℕ) → length fs ≤ most_targets → records_test n fs ≡ Fine → FramesIn n fs
+pub frames_let : (n : ℕ) (fs : List ℕ) → length fs ≤ most_targets → records_test n fs ≡ fine → FramesIn n fs
 unfolding records_test
 frames_let n fs few e = record {
   few = few;
@@ -76,17 +75,17 @@ pub record NearestAsked (n w : ℕ) (labels counts : List ℕ) (asked : ℕ) (fs
   pub sound : (i : ℕ) → i < length fs → sound_row n w n labels counts (get_or fs i 0) ≡ true
 
 module _ (n w : ℕ) (labels counts : List ℕ) (asked : ℕ) (fs : List ℕ) where
-  pub nearest_rooms : {r : Refusal} → target_rooms n w labels counts fs ≡ Refused r
-      → nearest_tests n w labels counts asked fs ≡ Refused r
+  pub nearest_rooms : {r : Refusal} → target_rooms n w labels counts fs ≡ Err r
+      → nearest_tests n w labels counts asked fs ≡ Err r
   unfolding nearest_tests
   nearest_rooms e = after_refused _ e
 
-  pub nearest_far : target_rooms n w labels counts fs ≡ Fine → n ≤ asked
-      → nearest_tests n w labels counts asked fs ≡ Refused (refusal FRAME 0)
+  pub nearest_far : target_rooms n w labels counts fs ≡ fine → n ≤ asked
+      → nearest_tests n w labels counts asked fs ≡ Err (refusal FRAME 0)
   unfolding nearest_tests
   nearest_far e k = after_fine _ e ∙ after_refused _ (frame_refused 0 k)
 
-  pub nearest_on : target_rooms n w labels counts fs ≡ Fine → asked < n
+  pub nearest_on : target_rooms n w labels counts fs ≡ fine → asked < n
       → nearest_tests n w labels counts asked fs
       ≡ (records_test n fs
       then row_test n w n labels counts asked
@@ -94,7 +93,7 @@ module _ (n w : ℕ) (labels counts : List ℕ) (asked : ℕ) (fs : List ℕ) wh
   unfolding nearest_tests
   nearest_on e k = after_fine _ e ∙ after_fine _ (frame_fine 0 k)
 
-  pub nearest_asked : nearest_tests n w labels counts asked fs ≡ Fine → NearestAsked n w labels counts asked fs
+  pub nearest_asked : nearest_tests n w labels counts asked fs ≡ fine → NearestAsked n w labels counts asked fs
   unfolding nearest_tests
   nearest_asked e =
       let (front, rest) = then_fine (target_rooms n w labels counts fs) _ e in
@@ -120,17 +119,17 @@ pub record SixteenAsked (n w : ℕ) (labels counts fs : List ℕ) : Type 0 where
   pub sound : (v : ℕ) → v < n → sound_row n w n labels counts v ≡ true
 
 module _ (n w : ℕ) (labels counts fs : List ℕ) where
-  pub sixteen_rooms : {r : Refusal} → target_rooms n w labels counts fs ≡ Refused r
-      → sixteen_tests n w labels counts fs ≡ Refused r
+  pub sixteen_rooms : {r : Refusal} → target_rooms n w labels counts fs ≡ Err r
+      → sixteen_tests n w labels counts fs ≡ Err r
   unfolding sixteen_tests
   sixteen_rooms e = after_refused _ e
 
-  pub sixteen_on : target_rooms n w labels counts fs ≡ Fine
+  pub sixteen_on : target_rooms n w labels counts fs ≡ fine
       → sixteen_tests n w labels counts fs ≡ (records_test n fs then rows_test n w n labels counts)
   unfolding sixteen_tests
   sixteen_on e = after_fine _ e
 
-  pub sixteen_asked : sixteen_tests n w labels counts fs ≡ Fine → SixteenAsked n w labels counts fs
+  pub sixteen_asked : sixteen_tests n w labels counts fs ≡ fine → SixteenAsked n w labels counts fs
   unfolding sixteen_tests
   sixteen_asked e =
       let (front, rest) = then_fine (target_rooms n w labels counts fs) _ e in

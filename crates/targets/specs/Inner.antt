@@ -1,15 +1,14 @@
 -- What inner functions ask of each other and promise: the records taken apart, and a table of joins by rank.
+use Rattle.refusal.specs.Tests.{fine}
 use Rattle.std.specs.Prelude.{ℕ, ◌+◌, ◌<◌, ◌≤◌, min, ◌≡◌, cond, List, [], ◌∷◌, length, get_or, set, eqb, ltb}
 use Rattle.basics.specs.Places.{count, first, least, table}
 use Rattle.refusal.specs.Sizes.{most_frames, most_width}
-use Rattle.refusal.specs.declared.Verdict.TheVariants.{Fine}
 use Rattle.entry.specs.Entry.{rank_of, joins_of}
 use Rattle.rows.specs.Inner.{RowLies}
 use Rattle.rows.specs.Rooms.{row_at}
-use Rattle.targets.specs.Nearest.{nearest_by}
+use Rattle.targets.specs.Nearest.{nearest_by, NearestTarget}
 use Rattle.targets.specs.Sixteen.{counted_at}
 use Rattle.targets.specs.Targets.{most_targets, apart}
-use Rattle.targets.specs.declared.nearest.NearestTarget.{NearestTarget}
 use Rattle.targets.specs.declared.record.Listed.{Listed}
 use Rattle.targets.specs.declared.record.Target.{Target}
 
@@ -94,7 +93,7 @@ reach_to w labels counts fs noted i = reach_of noted (row_at w labels counts (ge
 unfoldable pub first_reached : ℕ → List ℕ → List ℕ → List ℕ → List ℕ → NearestTarget
 first_reached w labels counts fs noted =
     let fewest : ℕ = least apart (length fs) (reach_to w labels counts fs noted) in
-    nearest_by Fine fewest (first (λ i. eqb (reach_to w labels counts fs noted i) fewest) 0 (length fs))
+    nearest_by fine fewest (first (λ i. eqb (reach_to w labels counts fs noted i) fewest) 0 (length fs))
 
 -- one more counted, so many joins away
 unfoldable pub raised_at : List ℕ → ℕ → List ℕ

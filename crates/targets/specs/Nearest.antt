@@ -1,15 +1,16 @@
 -- Nearest target: the place of the record with the fewest joins from the asked frame, the first such place on equal counts,
 -- or none.
-use Rattle.std.specs.Prelude.{ℕ, cond, List, [], ◌∷◌, length, get_or, eqb, ltb}
+use Rattle.refusal.specs.declared.Refusal.{Refusal}
+use Rattle.std.specs.Prelude.{ℕ, cond, List, [], ◌∷◌, length, get_or, eqb, ltb, Ok, Err, Some, None, Option, Result}
 use Rattle.basics.specs.Places.{first}
-use Rattle.refusal.specs.Tests.{◌then◌, tests_from}
+use Rattle.refusal.specs.Tests.{◌then◌, tests_from, Verdict}
 use Rattle.refusal.specs.Told.{Told, gives, refuses}
-use Rattle.refusal.specs.declared.Verdict.{Verdict}
-use Rattle.refusal.specs.declared.Verdict.TheVariants as verdicts
 use Rattle.rows.specs.Rooms.{frame_test, row_test}
 use Rattle.targets.specs.Targets.{target_rooms, records_test, apart, joins_to, fewest_joins}
-use Rattle.targets.specs.declared.nearest.NearestTarget.{NearestTarget}
-use Rattle.targets.specs.declared.nearest.NearestTarget.TheVariants as nearest
+
+-- the place of a record, none, or a refusal
+abbrev pub NearestTarget : Type 0
+NearestTarget = Result (Option ℕ) Refusal
 
 -- 1, 2, 8 for the asked frame, 8 for the records, 9 for the asked frame, then for the records in list order
 unfoldable pub nearest_tests : ℕ → ℕ → List ℕ → List ℕ → ℕ → List ℕ → Verdict
@@ -27,8 +28,8 @@ nearest_place w labels counts asked fs =
 
 -- behind fine tests: that record's place, and none where no record shares a rank with the asked frame
 unfoldable pub nearest_by : Verdict → ℕ → ℕ → NearestTarget
-nearest_by verdicts.Fine fewest place = cond (ltb fewest apart) (nearest.Record place) nearest.None
-nearest_by (verdicts.Refused r) fewest place = nearest.Refused r
+nearest_by (Ok _) fewest place = cond (ltb fewest apart) (Ok (Some place)) (Ok None)
+nearest_by (Err r) fewest place = Err r
 
 -- the answer for the asked frame and the records' frames
 unfoldable pub nearest_of : ℕ → ℕ → List ℕ → List ℕ → ℕ → List ℕ → NearestTarget
@@ -38,6 +39,6 @@ nearest_of n w labels counts asked fs =
 
 -- the paper's numbers: whether there is one, 1 or 0, and the record's place
 unfoldable pub nearest_told : NearestTarget → Told
-nearest_told (nearest.Record place) = gives (1 ∷ place ∷ [])
-nearest_told nearest.None = gives (0 ∷ 0 ∷ [])
-nearest_told (nearest.Refused r) = refuses r 2
+nearest_told (Ok (Some place)) = gives (1 ∷ place ∷ [])
+nearest_told (Ok None) = gives (0 ∷ 0 ∷ [])
+nearest_told (Err r) = refuses r 2

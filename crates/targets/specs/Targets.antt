@@ -3,9 +3,7 @@
 use Rattle.std.specs.Prelude.{ℕ, ◌+◌, List, [], ◌∷◌, length, get_or, leb}
 use Rattle.basics.specs.Places.{least}
 use Rattle.refusal.specs.Numbers.{SIZE}
-use Rattle.refusal.specs.Tests.{test, ◌then◌, tests_from}
-use Rattle.refusal.specs.declared.Verdict.{Verdict}
-use Rattle.refusal.specs.declared.Verdict.TheVariants.{Fine}
+use Rattle.refusal.specs.Tests.{test, ◌then◌, tests_from, Verdict, fine}
 use Rattle.theory.specs.Chains.{Count, joins, none}
 use Rattle.rows.specs.Meetings.{meeting_of}
 use Rattle.rows.specs.Pair.{answered, said_of}
@@ -41,7 +39,7 @@ number_said none = apart
 -- the joins from frame v to record i, as the pair question answers for their two rows
 unfoldable pub joins_to : ℕ → List ℕ → List ℕ → List ℕ → ℕ → ℕ → ℕ
 joins_to w labels counts fs v i =
-    number_said (said_of (answered Fine (meeting_of (row_at w labels counts v) (row_at w labels counts (get_or fs i 0)))))
+    number_said (said_of (answered fine (meeting_of (row_at w labels counts v) (row_at w labels counts (get_or fs i 0)))))
 
 -- the fewest joins from frame v to any record
 unfoldable pub fewest_joins : ℕ → List ℕ → List ℕ → List ℕ → ℕ → ℕ

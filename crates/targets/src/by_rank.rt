@@ -1,5 +1,5 @@
 // A table of joins by rank: one row, or the least of several, held against other rows without a merge for each.
-ghost use Rattle.std.specs.Prelude.{◌≡◌, min};
+ghost use Rattle.std.specs.Prelude.{◌≡◌};
 ghost use Rattle.targets.specs.Inner.{NotedLow, RanksIn, noted_in, reach_of};
 
 use entry::{Entry, joins_of, rank_of};
@@ -12,15 +12,12 @@ pub fn note(row: &[Entry], noted: &mut [u16])
     requires { RanksIn noted.old row.now }
     ensures { noted.new ≡ noted_in row.now noted.old }
 {
-    let mut at: usize = 0;
-    while at < row.len() {
-        let e = row[at];
-        let rank = rank_of(e);
-        let joins = joins_of(e) as u16;
+    for e in row {
+        let rank = rank_of(*e);
+        let joins = joins_of(*e) as u16;
         if joins < noted[rank] {
             noted[rank] = joins;
         }
-        at += 1;
     }
 }
 
@@ -31,24 +28,9 @@ pub fn reach(noted: &[u16], row: &[Entry]) -> usize
     ensures { result ≡ reach_of noted.now row.now }
 {
     let mut found = APART as u32;
-    let mut at: usize = 0;
-    while at < row.len() {
-        let e = row[at];
-        let rank = rank_of(e);
-        let joins = joins_of(e) as u32;
-        let sum = joins + noted[rank] as u32;
-        found = lesser(sum, found);
-        at += 1;
+    for e in row {
+        let sum = joins_of(*e) as u32 + noted[rank_of(*e)] as u32;
+        found = found.min(sum);
     }
     found as usize
-}
-
-// The lesser of two.
-pub fn lesser(a: u32, b: u32) -> u32
-    ensures { result ≡ min a b }
-{
-    if a < b {
-        return a;
-    }
-    b
 }

@@ -1,6 +1,6 @@
 // Nearest target: the place of the record with the fewest joins from the asked frame. The asked frame's row is noted by rank,
 // and each record's row is read against it.
-ghost use Rattle.std.specs.Prelude.{◌≡◌};
+ghost use Rattle.std.specs.Prelude.{◌≡◌, Ok};
 ghost use Rattle.targets.specs.Inner.{RowsKnown, first_reached, frames_in};
 ghost use Rattle.targets.specs.Nearest.{nearest_of, nearest_told};
 ghost use Rattle.targets.specs.Targets.{frames_of};
@@ -8,15 +8,7 @@ ghost use Rattle.targets.specs.Targets.{frames_of};
 use crate::record::{Listed, Target};
 use crate::{by_rank, record, tests};
 use entry::Entry;
-use refusal::{Refusal, Verdict};
-
-// What the question gives back: a record's place, none, or a refusal.
-#[derive(Clone, Copy)]
-pub enum NearestTarget {
-    Record(usize),
-    None,
-    Refused(Refusal),
-}
+use refusal::{Reason, Refusal};
 
 // The first record of fewest joins to what is noted, where any has less than `APART`.
 fn first_reached(
@@ -25,27 +17,25 @@ fn first_reached(
     counts: &[u32],
     frames: &[u32],
     noted: &[u16],
-) -> NearestTarget
+) -> Option<usize>
     requires { RowsKnown w labels.now counts.now frames.now noted.now }
-    ensures { result ≡ first_reached w labels.now counts.now frames.now noted.now }
+    ensures { Ok result ≡ first_reached w labels.now counts.now frames.now noted.now }
 {
     let mut fewest = by_rank::APART as usize;
     let mut place: usize = 0;
-    let mut i: usize = 0;
-    while i < frames.len() {
-        let frame = frames[i] as usize;
+    for (i, named) in frames.iter().enumerate() {
+        let frame = *named as usize;
         let row = rows::part::row_part(labels, w, frame, counts[frame] as usize);
         let joins = by_rank::reach(noted, row);
         if joins < fewest {
             fewest = joins;
             place = i;
         }
-        i += 1;
     }
     if fewest < by_rank::APART as usize {
-        return NearestTarget::Record(place);
+        return Some(place);
     }
-    NearestTarget::None
+    None
 }
 
 // The question on numbers: the records' frames.
@@ -56,19 +46,16 @@ pub fn nearest_of(
     counts: &[u32],
     asked: usize,
     frames: &[u32],
-) -> NearestTarget
+) -> Result<Option<usize>, Refusal>
     ensures { result ≡ nearest_of n w labels.now counts.now asked frames.now }
 {
-    let fine = tests::check_nearest(n, w, labels, counts, asked, frames);
-    if let Verdict::Refused(refusal) = fine {
-        return NearestTarget::Refused(refusal);
-    }
+    tests::check_nearest(n, w, labels, counts, asked, frames)?;
     let mut noted = [by_rank::APART; 4096];
     by_rank::note(
         rows::part::row_part(labels, w, asked, counts[asked] as usize),
         &mut noted,
     );
-    first_reached(w, labels, counts, frames, &noted)
+    Ok(first_reached(w, labels, counts, frames, &noted))
 }
 
 // The question on records taken apart.
@@ -79,15 +66,12 @@ pub fn nearest_listed(
     counts: &[u32],
     asked: usize,
     listed: Listed,
-) -> NearestTarget
+) -> Result<Option<usize>, Refusal>
     ensures { result ≡ nearest_of n w labels.now counts.now asked (frames_in listed) }
 {
     let count = listed.count;
     if tests::MOST_TARGETS < count {
-        return NearestTarget::Refused(Refusal {
-            number: refusal::SIZE,
-            place: 0,
-        });
+        return Err(Reason::Size.at(0));
     }
     let frames = listed.frames;
     nearest_of(n, w, labels, counts, asked, &frames[0..count])
@@ -101,7 +85,7 @@ pub fn nearest(
     counts: &[u32],
     asked: usize,
     targets: &[Target],
-) -> NearestTarget
+) -> Result<Option<usize>, Refusal>
     ensures { (result
         ≡ nearest_of n w labels.now counts.now asked
         (frames_of targets.now))

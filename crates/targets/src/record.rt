@@ -52,10 +52,8 @@ pub fn take_apart(targets: &[Target]) -> Listed
     ensures { result ≡ listed_of targets.now }
 {
     let mut listed = untaken(targets.len());
-    let mut i: usize = 0;
-    while i < 16 {
+    for i in 0..16 {
         listed = taken(listed, i, frame_or(targets, i));
-        i += 1;
     }
     listed
 }

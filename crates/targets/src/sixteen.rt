@@ -8,14 +8,7 @@ ghost use Rattle.targets.specs.Targets.{frames_of};
 use crate::record::{Listed, Target};
 use crate::{by_rank, record, tests};
 use entry::Entry;
-use refusal::Verdict;
-
-// What the question gives back: the tests' verdict, and the sixteen counts, all 0 on a refusal.
-#[derive(Clone, Copy)]
-pub struct SixteenCounts {
-    pub verdict: Verdict,
-    pub counts: [u64; 16],
-}
+use refusal::{Reason, Refusal};
 
 // The rows of all records noted by rank.
 fn note_all(w: usize, labels: &[Entry], counts: &[u32], frames: &[u32], noted: &mut [u16])
@@ -23,14 +16,12 @@ fn note_all(w: usize, labels: &[Entry], counts: &[u32], frames: &[u32], noted: &
     ensures { noted.new
         ≡ noted_rows w labels.now counts.now frames.now noted.old }
 {
-    let mut i: usize = 0;
-    while i < frames.len() {
-        let frame = frames[i] as usize;
+    for named in frames {
+        let frame = *named as usize;
         by_rank::note(
             rows::part::row_part(labels, w, frame, counts[frame] as usize),
             noted,
         );
-        i += 1;
     }
 }
 
@@ -40,7 +31,7 @@ fn raise(sixteen: &mut [u64], joins: usize)
     ensures { sixteen.new ≡ raised_at sixteen.old joins }
 {
     if joins < by_rank::APART as usize {
-        let i = by_rank::lesser(joins as u32, 15) as usize;
+        let i = joins.min(15);
         sixteen[i] += 1;
     }
 }
@@ -52,12 +43,10 @@ fn count_all(w: usize, labels: &[Entry], counts: &[u32], noted: &[u16], sixteen:
         ≡ reached_counts w labels.now counts.now noted.now
         (length counts.now) }
 {
-    let mut v: usize = 0;
-    while v < counts.len() {
-        let row = rows::part::row_part(labels, w, v, counts[v] as usize);
+    for (v, count) in counts.iter().enumerate() {
+        let row = rows::part::row_part(labels, w, v, *count as usize);
         let joins = by_rank::reach(noted, row);
         raise(sixteen, joins);
-        v += 1;
     }
 }
 
@@ -68,20 +57,15 @@ pub fn sixteen_of(
     labels: &[Entry],
     counts: &[u32],
     frames: &[u32],
-) -> SixteenCounts
+) -> Result<[u64; 16], Refusal>
     ensures { result ≡ sixteen_of n w labels.now counts.now frames.now }
 {
-    let fine = tests::check_sixteen(n, w, labels, counts, frames);
+    tests::check_sixteen(n, w, labels, counts, frames)?;
+    let mut noted = [by_rank::APART; 4096];
+    note_all(w, labels, counts, frames, &mut noted);
     let mut sixteen = [0u64; 16];
-    if let Verdict::Fine = fine {
-        let mut noted = [by_rank::APART; 4096];
-        note_all(w, labels, counts, frames, &mut noted);
-        count_all(w, labels, counts, &noted, &mut sixteen);
-    }
-    SixteenCounts {
-        verdict: fine,
-        counts: sixteen,
-    }
+    count_all(w, labels, counts, &noted, &mut sixteen);
+    Ok(sixteen)
 }
 
 // The question on records taken apart.
@@ -91,16 +75,12 @@ pub fn sixteen_listed(
     labels: &[Entry],
     counts: &[u32],
     listed: Listed,
-) -> SixteenCounts
+) -> Result<[u64; 16], Refusal>
     ensures { result ≡ sixteen_of n w labels.now counts.now (frames_in listed) }
 {
     let count = listed.count;
     if tests::MOST_TARGETS < count {
-        let zeros = [0u64; 16];
-        return SixteenCounts {
-            verdict: refusal::refused(refusal::SIZE, 0),
-            counts: zeros,
-        };
+        return Err(Reason::Size.at(0));
     }
     let frames = listed.frames;
     sixteen_of(n, w, labels, counts, &frames[0..count])
@@ -113,7 +93,7 @@ pub fn sixteen(
     labels: &[Entry],
     counts: &[u32],
     targets: &[Target],
-) -> SixteenCounts
+) -> Result<[u64; 16], Refusal>
     ensures { (result
         ≡ sixteen_of n w labels.now counts.now
         (frames_of targets.now))

@@ -9,7 +9,9 @@ ghost use Rattle.targets.specs.Sixteen.{sixteen_tests};
 ghost use Rattle.targets.specs.Targets.{records_test, target_rooms};
 
 use entry::Entry;
-use refusal::{FRAME, SIZE, Verdict, refused};
+use refusal::{Reason, Refusal, test};
+use rows::check::{check_row, check_rows};
+use rows::rooms::check_rooms;
 
 // The most records.
 pub const MOST_TARGETS: usize = 16;
@@ -21,29 +23,22 @@ pub fn check_target_rooms(
     labels: &[Entry],
     counts: &[u32],
     frames: &[u32],
-) -> Verdict
+) -> Result<(), Refusal>
     ensures { result ≡ target_rooms n w labels.now counts.now frames.now }
 {
-    if MOST_TARGETS < frames.len() {
-        return refused(SIZE, 0);
-    }
-    rows::rooms::check_rooms(n, w, labels, counts)
+    test(frames.len() <= MOST_TARGETS, Reason::Size, 0)?;
+    check_rooms(n, w, labels, counts)
 }
 
 // 8 for the records, in list order: the record's place plus one.
-pub fn check_records(n: usize, frames: &[u32]) -> Verdict
+pub fn check_records(n: usize, frames: &[u32]) -> Result<(), Refusal>
     requires { length frames.now ≤ 16 }
     ensures { result ≡ records_test n frames.now }
 {
-    let mut i: usize = 0;
-    while i < frames.len() {
-        let frame = frames[i] as usize;
-        if n <= frame {
-            return refused(FRAME, i + 1);
-        }
-        i += 1;
+    for (i, frame) in frames.iter().enumerate() {
+        test((*frame as usize) < n, Reason::Frame, i + 1)?;
     }
-    Verdict::Fine
+    Ok(())
 }
 
 // 9 for the records' rows, in list order.
@@ -53,7 +48,7 @@ pub fn check_record_rows(
     labels: &[Entry],
     counts: &[u32],
     frames: &[u32],
-) -> Verdict
+) -> Result<(), Refusal>
     requires { Rooms n w labels.now counts.now × FramesIn n frames.now }
     ensures { result
         ≡ tests_from
@@ -61,16 +56,10 @@ pub fn check_record_rows(
         0
         (length frames.now) }
 {
-    let mut i: usize = 0;
-    while i < frames.len() {
-        let frame = frames[i] as usize;
-        let row = rows::check::check_row(n, w, labels, counts, frame);
-        let Verdict::Fine = row else {
-            return row;
-        };
-        i += 1;
+    for frame in frames {
+        check_row(n, w, labels, counts, *frame as usize)?;
     }
-    Verdict::Fine
+    Ok(())
 }
 
 // 1, 2, 8 for the asked frame, 8 for the records, 9 for the asked frame, then for the records.
@@ -81,25 +70,14 @@ pub fn check_nearest(
     counts: &[u32],
     asked: usize,
     frames: &[u32],
-) -> Verdict
+) -> Result<(), Refusal>
     ensures { result
         ≡ nearest_tests n w labels.now counts.now asked frames.now }
 {
-    let rooms = check_target_rooms(n, w, labels, counts, frames);
-    let Verdict::Fine = rooms else {
-        return rooms;
-    };
-    if n <= asked {
-        return refused(FRAME, 0);
-    }
-    let records = check_records(n, frames);
-    let Verdict::Fine = records else {
-        return records;
-    };
-    let row = rows::check::check_row(n, w, labels, counts, asked);
-    let Verdict::Fine = row else {
-        return row;
-    };
+    check_target_rooms(n, w, labels, counts, frames)?;
+    test(asked < n, Reason::Frame, 0)?;
+    check_records(n, frames)?;
+    check_row(n, w, labels, counts, asked)?;
     check_record_rows(n, w, labels, counts, frames)
 }
 
@@ -110,16 +88,10 @@ pub fn check_sixteen(
     labels: &[Entry],
     counts: &[u32],
     frames: &[u32],
-) -> Verdict
+) -> Result<(), Refusal>
     ensures { result ≡ sixteen_tests n w labels.now counts.now frames.now }
 {
-    let rooms = check_target_rooms(n, w, labels, counts, frames);
-    let Verdict::Fine = rooms else {
-        return rooms;
-    };
-    let records = check_records(n, frames);
-    let Verdict::Fine = records else {
-        return records;
-    };
-    rows::check::check_rows(n, w, n, labels, counts)
+    check_target_rooms(n, w, labels, counts, frames)?;
+    check_records(n, frames)?;
+    check_rows(n, w, n, labels, counts)
 }

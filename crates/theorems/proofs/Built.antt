@@ -1,13 +1,14 @@
 -- An unrefused build: the tests were passed, so the links are a block and the order holds each frame once; the rooms hold
 -- the rows of the rule at k, none over W long.
+use Rattle.refusal.specs.Tests.{Verdict, fine}
+use Rattle.std.specs.Prelude.{Ok, Err}
 use Prim.Native.Nat.{ℕ, ◌≤◌, ◌<◌}
 use mathlib.Core.Path.{◌≡◌, refl, sym, ap, ◌∙◌}
 use mathlib.Core.List.{List}
 use native.Mathlib.Omega.{arith}
 use lib.ListN.{length, get_or, replicate}
 use Rattle.basics.specs.Places.{sum}
-use Rattle.refusal.specs.declared.Verdict.{Verdict}
-use Rattle.refusal.specs.declared.Verdict.TheVariants.{Fine, Refused}
+use Rattle.refusal.specs.declared.Refusal.{Refusal}
 use Rattle.theory.specs.Rows.{Row}
 use Rattle.theory.specs.Plain.{row_by}
 use Rattle.entry.specs.Entry.{decode}
@@ -17,8 +18,6 @@ use Rattle.rows.specs.Inner.{Laid}
 use Rattle.rows.proofs.LaidLaws.{count_at_lem, laid_long}
 use Rattle.build.specs.Inner.{Tested}
 use Rattle.build.specs.Build.{BuildOutcome, build_outcome, after_walks, after_tests, build_of, built_told}
-use Rattle.build.specs.declared.Built.TheVariants.{Entries}
-use Rattle.build.proofs.BuildOut.{not_made}
 use Rattle.build.proofs.BuildTests as build-tests
 use Rattle.build.proofs.RunLaws.{rows_back}
 use Rattle.build.proofs.RunStops.{narrow_rows}
@@ -35,25 +34,29 @@ pub record Made (n w k : ℕ) (S L O : List ℕ) (entries : ℕ) (labels counts 
 
 -- ---- the outcome taken apart
 
+-- a number of entries is no refusal
+not_made {ℓ} : {C : Type ℓ} {e : ℕ} {r : Refusal} → Ok e ≡ Err r → C
+not_made q = let z : ◌≡◌ {A = ℕ} 0 1 = cc in absurd (omega arith)
+
 tests_fine : (lent : BuildOutcome) (v : Verdict) (made : BuildOutcome) (e : ℕ) (a b d f : List ℕ)
-    → build_outcome (Entries e) a b d f ≡ after_tests lent v made → (v ≡ Fine) × (build_outcome (Entries e) a b d f ≡ made)
+    → build_outcome (Ok e) a b d f ≡ after_tests lent v made → (v ≡ fine) × (build_outcome (Ok e) a b d f ≡ made)
 unfolding after_tests
-tests_fine lent Fine made e a b d f q = (refl, q)
-tests_fine lent (Refused r) made e a b d f q = not_made (ap (λ (o : BuildOutcome). o.answer) q)
+tests_fine lent (Ok _) made e a b d f q = (refl, q)
+tests_fine lent (Err r) made e a b d f q = not_made (ap (λ (o : BuildOutcome). o.answer) q)
 
 walks_fine : (n w : ℕ) (R : ℕ → Row) (v : Verdict) (e : ℕ) (a b d f : List ℕ)
-    → build_outcome (Entries e) a b d f ≡ after_walks n w R v
-    → (v ≡ Fine)
-    × (build_outcome (Entries e) a b d f
-    ≡ build_outcome (Entries (sum (counts_of n R))) (labels_of n w R) (counts_of n R) (replicate n 0) (replicate n 0))
+    → build_outcome (Ok e) a b d f ≡ after_walks n w R v
+    → (v ≡ fine)
+    × (build_outcome (Ok e) a b d f
+    ≡ build_outcome (Ok (sum (counts_of n R))) (labels_of n w R) (counts_of n R) (replicate n 0) (replicate n 0))
 unfolding after_walks
-walks_fine n w R Fine e a b d f q = (refl, q)
-walks_fine n w R (Refused r) e a b d f q = not_made (ap (λ (o : BuildOutcome). o.answer) q)
+walks_fine n w R (Ok _) e a b d f q = (refl, q)
+walks_fine n w R (Err r) e a b d f q = not_made (ap (λ (o : BuildOutcome). o.answer) q)
 
 -- ---- an unrefused build
 
 pub built_tests : (n w k : ℕ) (S L O labels counts met queue : List ℕ) (entries : ℕ) (labels' counts' met' queue' : List ℕ)
-    → build_outcome (Entries entries) labels' counts' met' queue' ≡ build_of n w k S L O labels counts met queue
+    → build_outcome (Ok entries) labels' counts' met' queue' ≡ build_of n w k S L O labels counts met queue
     → Made n w k S L O entries labels' counts' met' queue'
 unfolding build_of built_told
 built_tests n w k S L O labels counts met queue entries labels' counts' met' queue' e =

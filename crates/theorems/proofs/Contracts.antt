@@ -1,5 +1,6 @@
 -- The same theorems over the functions' own contracts. A call is any outcome that the function's contract allows: numbers and
 -- room contents before it, what came back, and room contents after it.
+use Rattle.std.specs.Prelude.{Ok}
 use Prim.Native.Nat.{ℕ, ◌+◌, ◌*◌, ◌≤◌, ◌<◌}
 use mathlib.Core.Path.{◌≡◌, refl, sym, ap, subst, ◌∙◌}
 use mathlib.Core.List.{List}
@@ -9,22 +10,17 @@ use denote.Triple.Clauses.{AtExit}
 use lib.ListN.{length, take, drop}
 use Rattle.theory.specs.Links.{hub_of}
 use Rattle.theory.specs.Chains.{Least, Through}
-use Rattle.rows.specs.Pair.{pair_of, pair_told, said_of}
-use Rattle.rows.specs.declared.pair.Answer.{Answer}
+use Rattle.rows.specs.Pair.{pair_of, pair_told, said_of, Answer}
 use Rattle.rows.proofs.pair.pair.Kinds as pair-kinds
 use Rattle.rows.proofs.pair.pair.Reads as pair-reads
-use Rattle.build.specs.Build.{build_outcome, build_of}
-use Rattle.build.specs.declared.Built.{Built}
-use Rattle.build.specs.declared.Built.TheVariants.{Entries}
+use Rattle.build.specs.Build.{build_outcome, build_of, Built}
 use Rattle.build.proofs.build.Kinds as build-kinds
 use Rattle.build.proofs.build.Reads as build-reads
 use Rattle.fields.specs.Bits.{Bytes}
 use Rattle.fields.specs.Layout.{file_size}
 use Rattle.file.specs.Index.{stored, SameIndex}
-use Rattle.file.specs.Reader.{read_outcome as read, read_of}
-use Rattle.file.specs.Writer.{write_outcome, write_of}
-use Rattle.file.specs.declared.Opened.{Opened}
-use Rattle.file.specs.declared.Written.{Written}
+use Rattle.file.specs.Reader.{read_outcome as read, read_of, Opened, indexed}
+use Rattle.file.specs.Writer.{write_outcome, write_of, Written}
 use Rattle.file.proofs.write.Kinds as write-kinds
 use Rattle.file.proofs.write.Reads as write-reads
 use Rattle.file.proofs.read.Kinds as read-kinds
@@ -134,13 +130,13 @@ pair_out c =
 
 -- any unrefused call of the build leaves rooms that meet demands 2 and 3
 pub build_demands : {n w k : ℕ} {S L O labels₀ counts₀ met₀ queue₀ : List ℕ} {entries : ℕ} {labels counts met queue : List ℕ}
-    → BuildCall n w k S L O labels₀ counts₀ met₀ queue₀ (Entries entries) labels counts met queue
+    → BuildCall n w k S L O labels₀ counts₀ met₀ queue₀ (Ok entries) labels counts met queue
     → Demands n w k S L O labels counts
 build_demands c = built_demands _ _ _ _ _ _ _ _ _ _ _ _ _ _ _ (build_out c)
 
 -- any unrefused build, any call of the writer with room enough, any call of the reader with the same W and rooms of the right lengths
 pub calls_end_to_end : {n w k : ℕ} {S L O labels₀ counts₀ met₀ queue₀ : List ℕ} {entries : ℕ} {labels counts met queue : List ℕ}
-    → BuildCall n w k S L O labels₀ counts₀ met₀ queue₀ (Entries entries) labels counts met queue
+    → BuildCall n w k S L O labels₀ counts₀ met₀ queue₀ (Ok entries) labels counts met queue
     → {out : List ℕ} {start : ℕ} → start + file_size n entries ≤ length out → {written : Written} {room : List ℕ}
     → WriteCall n w k O labels counts out start written room
     → {order₁ labels₁ counts₁ : List ℕ} → length order₁ ≡ n → length labels₁ ≡ n * w → length counts₁ ≡ n
@@ -161,17 +157,17 @@ calls_asked {k} {S} {L} {O} {s} {t} d c p q = (
 
 -- any index written, and read back with the same W into rooms of the right lengths, is the same index
 pub calls_write_read : {n w k : ℕ} {O labels counts out : List ℕ} {start bytes : ℕ} {room : List ℕ}
-    → WriteCall n w k O labels counts out start (Written.Bytes bytes) room
+    → WriteCall n w k O labels counts out start (Ok bytes) room
     → {order₁ labels₁ counts₁ : List ℕ} → length order₁ ≡ n → length labels₁ ≡ n * w → length counts₁ ≡ n
     → {opened : Opened} {order₂ labels₂ counts₂ : List ℕ}
     → ReadCall (take bytes (drop start room)) w order₁ labels₁ counts₁ opened order₂ labels₂ counts₂
-    → (opened ≡ Opened.Index n k) × SameIndex (stored n w k O labels counts) (stored n w k order₂ labels₂ counts₂)
+    → (opened ≡ indexed n k) × SameIndex (stored n w k O labels counts) (stored n w k order₂ labels₂ counts₂)
 calls_write_read c p q r back =
     write_then_read _ _ _ _ _ _ _ _ _ _ (write_out c) _ refl _ _ _ p q r _ _ _ _ (read_out back)
 
 -- any file read, and its index written again with the same W into room enough, is the same file
 pub calls_read_write : {bytes : List ℕ} → Bytes bytes → {n w k : ℕ} {order₁ labels₁ counts₁ order₂ labels₂ counts₂ : List ℕ}
-    → ReadCall bytes w order₁ labels₁ counts₁ (Opened.Index n k) order₂ labels₂ counts₂
+    → ReadCall bytes w order₁ labels₁ counts₁ (indexed n k) order₂ labels₂ counts₂
     → {out : List ℕ} {start : ℕ} {written : Written} {room : List ℕ} → WriteCall n w k order₂ labels₂ counts₂ out start written room
-    → start + length bytes ≤ length out → (written ≡ Written.Bytes (length bytes)) × (take (length bytes) (drop start room) ≡ bytes)
+    → start + length bytes ≤ length out → (written ≡ Ok (length bytes)) × (take (length bytes) (drop start room) ≡ bytes)
 calls_read_write b c d enough = read_then_written _ b _ _ _ _ _ _ _ _ _ (read_out c) _ _ _ _ (write_out d) enough

@@ -1,9 +1,9 @@
 -- Rooms that hold the rows of the rule meet demands 2 and 3, every clause; so do the rooms of an unrefused build.
+use Rattle.std.specs.Prelude.{Ok}
 use Prim.Native.Nat.{ℕ}
 use mathlib.Core.Path.{◌≡◌}
 use mathlib.Core.List.{List}
 use Rattle.build.specs.Build.{build_outcome, build_of}
-use Rattle.build.specs.declared.Built.TheVariants.{Entries}
 use Rattle.theorems.specs.Demands.{Demands, labels_without, counts_without, hub_at}
 use Rattle.theorems.proofs.Answers.{answer_through, answer_never_below, answer_near_first, answer_near_second, answer_true}
 use Rattle.theorems.proofs.Built.{built_tests, built_held}
@@ -33,7 +33,7 @@ held_demands {n} {w} {k} {S} {L} {O} {labels} {counts} h =
 
 -- demands 2 and 3 of any rooms that the build's contract allows with an unrefused build
 pub built_demands : (n w k : ℕ) (S L O labels counts met queue : List ℕ) (entries : ℕ) (labels' counts' met' queue' : List ℕ)
-    → build_outcome (Entries entries) labels' counts' met' queue' ≡ build_of n w k S L O labels counts met queue
+    → build_outcome (Ok entries) labels' counts' met' queue' ≡ build_of n w k S L O labels counts met queue
     → Demands n w k S L O labels' counts'
 built_demands n w k S L O labels counts met queue entries labels' counts' met' queue' e =
     held_demands (built_held (built_tests n w k S L O labels counts met queue entries labels' counts' met' queue' e))

@@ -1,5 +1,6 @@
 -- From the links handed in to an answer asked of a file read back. The read-back rooms have the built ones' counts and used
 -- entries, so they hold the rows of the rule too, and demands 2 and 3 follow for them as for the built ones.
+use Rattle.std.specs.Prelude.{Ok}
 use Prim.Native.Nat.{ℕ, ◌+◌, ◌*◌, ◌≤◌}
 use mathlib.Core.Path.{◌≡◌, sym, ap, ◌∙◌}
 use mathlib.Core.List.{List}
@@ -14,14 +15,11 @@ use Rattle.rows.specs.Inner.{Rooms}
 use Rattle.rows.proofs.Laws.{entry_at}
 use Rattle.rows.proofs.PairDepends.{SameRow, pair_depends}
 use Rattle.build.specs.Build.{build_outcome, build_of}
-use Rattle.build.specs.declared.Built.TheVariants.{Entries}
 use Rattle.fields.specs.Layout.{file_size}
 use Rattle.file.specs.Index.{stored, SameIndex}
-use Rattle.file.specs.Reader.{read_outcome as read, read_of}
+use Rattle.file.specs.Reader.{read_outcome as read, read_of, Opened}
 use Rattle.file.specs.Inner.{Fit}
-use Rattle.file.specs.Writer.{write_outcome, write_of}
-use Rattle.file.specs.declared.Opened.{Opened}
-use Rattle.file.specs.declared.Written.{Written}
+use Rattle.file.specs.Writer.{write_outcome, write_of, Written}
 use Rattle.file.proofs.ReadWrite.{read_takes}
 use Rattle.theorems.specs.EndToEnd.{EndToEnd}
 use Rattle.theorems.proofs.Built.{Made, built_tests, built_held}
@@ -74,7 +72,7 @@ module _ {n w k : ℕ} {S L O labels counts : List ℕ} (h : Held n w k S L O la
 -- links and order handed in, a build to k that is not refused, the index written from any start into any room long enough,
 -- and read back with the same W into any rooms of the right lengths
 pub end_to_end : (n w k : ℕ) (S L O labels₀ counts₀ met₀ queue₀ : List ℕ) (entries : ℕ) (labels counts met queue : List ℕ)
-    → build_outcome (Entries entries) labels counts met queue ≡ build_of n w k S L O labels₀ counts₀ met₀ queue₀
+    → build_outcome (Ok entries) labels counts met queue ≡ build_of n w k S L O labels₀ counts₀ met₀ queue₀
     → (out : List ℕ) (start : ℕ) → start + file_size n entries ≤ length out → (written : Written) (room : List ℕ)
     → write_outcome written room ≡ write_of n w k O labels counts out start
     → (order₁ labels₁ counts₁ : List ℕ) → length order₁ ≡ n → length labels₁ ≡ n * w → length counts₁ ≡ n
@@ -87,8 +85,8 @@ end_to_end n w k S L O labels₀ counts₀ met₀ queue₀ entries labels counts
     built_tests n w k S L O labels₀ counts₀ met₀ queue₀ entries labels counts met queue built in
     let h : Held n w k S L O labels counts = built_held m in
     let total : file_size n (sum counts) ≡ file_size n entries = ap (file_size n) (sym m.total) in
-    let size : written ≡ Written.Bytes (file_size n entries) =
-    write_taken n w k O labels counts out start written room filled (built_fit m) (omega arith) ∙ ap Written.Bytes total in
+    let size : written ≡ Ok (file_size n entries) =
+    write_taken n w k O labels counts out start written room filled (built_fit m) (omega arith) ∙ ap Ok total in
     let (index, same) =
     write_then_read n w k O labels counts out start written room filled (file_size n entries) size order₁ labels₁ counts₁ p q r
     opened order₂ labels₂ counts₂ back in

@@ -1,12 +1,12 @@
 -- Rooms that hold the rows of the rule: their rows are sound, no pair of frames is refused, and the answer is the theory's.
+use Rattle.refusal.specs.Tests.{Verdict, fine}
+use Rattle.std.specs.Prelude.{Some, None}
 use Prim.Native.Nat.{ℕ, ◌+◌, ◌≤◌, ◌<◌}
 use mathlib.Core.Path.{◌≡◌, refl, sym, ap, ◌∙◌}
 use mathlib.Core.Bool.{true}
 use mathlib.Core.List.{List}
 use native.Mathlib.Omega.{arith}
 use lib.ListN.{length, get_or}
-use Rattle.refusal.specs.declared.Verdict.{Verdict}
-use Rattle.refusal.specs.declared.Verdict.TheVariants.{Fine}
 use Rattle.theory.specs.Links.{Block, Order, hub_of}
 use Rattle.theory.specs.Distance.{far, said}
 use Rattle.theory.specs.Rows.{Row, answer}
@@ -15,11 +15,10 @@ use Rattle.theory.specs.Plain.{ones, joined, row_by, answer_by}
 use Rattle.theory.proofs.Rule.{rank_at, joins_at}
 use Rattle.theory.proofs.Plain.{plain_rising, plain_places, plain_walks}
 use Rattle.entry.specs.Entry.{rank_of, joins_of, decode}
-use Rattle.rows.specs.Meetings.{meeting_of}
+use Rattle.rows.specs.Meetings.{meeting_of, Best}
 use Rattle.rows.specs.Pair.{pair_tests, answered, pair_of, pair_told}
 use Rattle.rows.specs.Inner.{Rooms}
 use Rattle.rows.specs.Rooms.{row_at, sound_row, rows_test}
-use Rattle.rows.specs.declared.merge.Best.{Best}
 use Rattle.entry.proofs.Laws.{length_decode, decoded}
 use Rattle.rows.proofs.Laws.{Sound, sound_row_lem, sound_higher}
 use Rattle.rows.proofs.RoomLaws.{length_row, sound_all}
@@ -37,12 +36,12 @@ pub record Held (n w k : ℕ) (S L O labels counts : List ℕ) : Type 0 where
   pub rows : (v : ℕ) → v < n → decode (row_at w labels counts v) ≡ row_by n S L O k v
 
 -- whatever it meets, a question whose tests are fine has number 0
-fine_told : (best : Best) → (pair_told (answered Fine best)).number ≡ 0
+fine_told : (best : Best) → (pair_told (answered fine best)).number ≡ 0
 unfolding pair_told answered
-fine_told Best.Nowhere = refl
-fine_told (Best.Meet m) = refl
+fine_told None = refl
+fine_told (Some m) = refl
 
-pub told_fine : (n w : ℕ) (labels counts : List ℕ) (s t : ℕ) → pair_tests n w labels counts s t ≡ Fine
+pub told_fine : (n w : ℕ) (labels counts : List ℕ) (s t : ℕ) → pair_tests n w labels counts s t ≡ fine
     → (pair_told (pair_of n w labels counts s t)).number ≡ 0
 unfolding pair_of
 told_fine n w labels counts s t e =
@@ -57,7 +56,7 @@ module _ {n w k : ℕ} {labels counts : List ℕ} (rooms : Rooms n w labels coun
   row_sound v p = sound_row_lem n w n labels counts v (narrow v p) (sound_higher stop (sound v p))
 
   -- no pair of frames is refused
-  pub sound_fine : (s t : ℕ) → s < n → t < n → pair_tests n w labels counts s t ≡ Fine
+  pub sound_fine : (s t : ℕ) → s < n → t < n → pair_tests n w labels counts s t ≡ fine
   sound_fine s t p q =
       asked_fine record { rooms = rooms; first = p; second = q; first_sound = row_sound s p; second_sound = row_sound t q }
 
@@ -100,7 +99,7 @@ module _ {n w k : ℕ} {S L O labels counts : List ℕ} (h : Held n w k S L O la
       }
 
   -- every row is sound for the bound k, as the writer asks
-  pub held_rows : rows_test n w k labels counts ≡ Fine
+  pub held_rows : rows_test n w k labels counts ≡ fine
   held_rows = sound_all n w k labels counts (λ v p. sound_row_lem n w k labels counts v (h.narrow v p) (held_sound v p))
 
   -- the rows are the walks'
@@ -108,7 +107,7 @@ module _ {n w k : ℕ} {S L O labels counts : List ℕ} (h : Held n w k S L O la
   held_walks v p = h.rows v p ∙ sym (plain_walks h.block h.order k v h.stop p)
 
   -- no pair of frames is refused
-  pub held_fine : (s t : ℕ) → s < n → t < n → pair_tests n w labels counts s t ≡ Fine
+  pub held_fine : (s t : ℕ) → s < n → t < n → pair_tests n w labels counts s t ≡ fine
   held_fine = sound_fine h.rooms h.stop h.narrow held_sound
 
   -- and the answer is the theory's

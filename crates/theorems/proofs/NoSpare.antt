@@ -1,5 +1,6 @@
 -- No entry is spare, in the rooms: with used entry i of row v taken out, every other row is as it was, row v has that entry
 -- less and is sound, so the pair of its hub and v is answered by the theory, and otherwise.
+use Rattle.refusal.specs.Tests.{fine}
 use Prim.Native.Nat.{ℕ, suc, ◌+◌, ◌-◌, ◌*◌, ◌≤◌, ◌<◌}
 use mathlib.Core.Path.{◌≡◌, refl, sym, ap, subst, ◌∙◌}
 use mathlib.Core.Bool.{false, ◌&&◌}
@@ -11,7 +12,6 @@ use lib.ListN.{length, get_or, take, drop, length-set, length-append, length-tak
 use lib.Seq.{get_or-set_same, get_or-set_other, get_or-take, get_or-drop, get_or-append-add, split_at, ext_get_or}
 use lib.Dec.{leb, ltb}
 use Rattle.basics.proofs.Laws.{by_cases, lt_or_ge, three_ways, cond_false, length_table, get_d_table}
-use Rattle.refusal.specs.declared.Verdict.TheVariants.{Fine}
 use Rattle.theory.specs.Links.{hub_of}
 use Rattle.theory.specs.Rows.{Row, instead}
 use Rattle.theory.specs.Plain.{row_by}
@@ -227,7 +227,7 @@ module _ {n w k : ℕ} {S L O labels counts : List ℕ} (h : Held n w k S L O la
       subst (λ (r : List ℕ). Sound n k r (get_or counts' u 0)) (sym (other_row u q e))
       (subst (Sound n k (row_at w labels counts u)) (sym (no_less u e)) (held_sound h u q)))
 
-  pub without_fine : (s t : ℕ) → s < n → t < n → pair_tests n w labels' counts' s t ≡ Fine
+  pub without_fine : (s t : ℕ) → s < n → t < n → pair_tests n w labels' counts' s t ≡ fine
   without_fine = sound_fine rooms' h.stop narrow' sounds'
 
   pub hub_inside : hub_at w O labels v i < n

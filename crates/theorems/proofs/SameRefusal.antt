@@ -1,5 +1,11 @@
 -- Any two outcomes allowed by a contract of `refusal` are equal.
 use mathlib.Core.Path.{sym, ◌∙◌}
+use Rattle.refusal.proofs.Reason.at.Kinds as at-kinds
+use Rattle.refusal.proofs.Reason.at.Reads as at-reads
+use Rattle.refusal.proofs.Refusal.number.Kinds as number-kinds
+use Rattle.refusal.proofs.Refusal.number.Reads as number-reads
+use Rattle.refusal.proofs.test.Kinds as test-kinds
+use Rattle.refusal.proofs.test.Reads as test-reads
 use Rattle.refusal.proofs.refused.Kinds as refused-kinds
 use Rattle.refusal.proofs.refused.Reads as refused-reads
 use Rattle.refusal.proofs.sizes.frames_fit.Kinds as frames-fit-kinds
@@ -11,6 +17,15 @@ use Rattle.refusal.proofs.sizes.places_fit.Reads as places-fit-reads
 use Rattle.refusal.proofs.sizes.sizes_fit.Kinds as sizes-fit-kinds
 use Rattle.refusal.proofs.sizes.sizes_fit.Reads as sizes-fit-reads
 use Rattle.theorems.proofs.Same.{SameAnswer}
+
+pub at_same : SameAnswer 0 at-kinds.ps at-kinds.r at-reads.Post
+at_same κs a r₁ r₂ s₁ s₂ p q = p ∙ sym q
+
+pub number_same : SameAnswer 0 number-kinds.ps number-kinds.r number-reads.Post
+number_same κs a r₁ r₂ s₁ s₂ p q = p ∙ sym q
+
+pub test_same : SameAnswer 0 test-kinds.ps test-kinds.r test-reads.Post
+test_same κs a r₁ r₂ s₁ s₂ p q = p ∙ sym q
 
 pub refused_same : SameAnswer 0 refused-kinds.ps refused-kinds.r refused-reads.Post
 refused_same κs a r₁ r₂ s₁ s₂ p q = p ∙ sym q

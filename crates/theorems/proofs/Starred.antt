@@ -1,4 +1,5 @@
 -- The starred cases hold: the left side of each computes to the value written out by hand.
+use Rattle.std.specs.Prelude.{Ok, None}
 use Prim.Native.Nat.{ℕ, zero, suc, ◌<◌}
 use mathlib.Core.Path.{◌≡◌, refl}
 use native.Mathlib.Omega.{arith}
@@ -15,7 +16,6 @@ use Rattle.entry.specs.Entry.{rank_of, joins_of, entry_of, decode, encode}
 use Rattle.rows.specs.Rooms.{rooms_fit, room_tests, part, row_at, faulty_entry, sound_row, frame_test, frame_tests, row_test, rows_test}
 use Rattle.rows.specs.Meetings.{meetings_at, meetings, goes_before, lesser_of, least_from, meeting_of}
 use Rattle.rows.specs.Pair.{pair_tests, answered, pair_of}
-use Rattle.rows.specs.declared.pair.Answer.TheVariants as answers
 use Rattle.rows.specs.Laid.{labels_of, counts_of}
 use Rattle.build.specs.Build.{
   build_sizes,
@@ -66,11 +66,11 @@ starred =
       one_hub_near = refl;
       no_hub =
           λ s t h k.
-          each_frame (λ u. asked 4 3 (chain_to 0) u t ≡ answers.None)
-          (each_frame (λ v. asked 4 3 (chain_to 0) 0 v ≡ answers.None) refl refl refl refl t k)
-          (each_frame (λ v. asked 4 3 (chain_to 0) 1 v ≡ answers.None) refl refl refl refl t k)
-          (each_frame (λ v. asked 4 3 (chain_to 0) 2 v ≡ answers.None) refl refl refl refl t k)
-          (each_frame (λ v. asked 4 3 (chain_to 0) 3 v ≡ answers.None) refl refl refl refl t k)
+          each_frame (λ u. asked 4 3 (chain_to 0) u t ≡ Ok None)
+          (each_frame (λ v. asked 4 3 (chain_to 0) 0 v ≡ Ok None) refl refl refl refl t k)
+          (each_frame (λ v. asked 4 3 (chain_to 0) 1 v ≡ Ok None) refl refl refl refl t k)
+          (each_frame (λ v. asked 4 3 (chain_to 0) 2 v ≡ Ok None) refl refl refl refl t k)
+          (each_frame (λ v. asked 4 3 (chain_to 0) 3 v ≡ Ok None) refl refl refl refl t k)
           s h;
       ring_entries = refl;
       ring_row = refl;

@@ -1,5 +1,7 @@
 -- Over an index of all hubs the nearest target is truly the nearest, and the joins by which frames are counted are the true ones:
 -- both go through the pair question, whose answers are.
+use Rattle.refusal.specs.Tests.{fine}
+use Rattle.std.specs.Prelude.{Ok}
 use Prim.Native.Nat.{ℕ, ◌≤◌, ◌<◌}
 use mathlib.Core.Path.{◌≡◌, refl, sym, subst}
 use mathlib.Core.Bool.{true}
@@ -8,7 +10,6 @@ use native.Mathlib.Omega.{arith}
 use borrow.Author.Tests.{lt-ltb, le-ltb}
 use lib.ListN.{length, get_or}
 use Rattle.basics.proofs.Laws.{lt_or_ge, cases, cond_true, cond_false, least_le, least_found}
-use Rattle.refusal.specs.declared.Verdict.TheVariants.{Fine}
 use Rattle.theory.specs.Chains.{joins, Least}
 use Rattle.theory.specs.Distance.{said}
 use Rattle.rows.specs.Rooms.{sound_row}
@@ -19,7 +20,6 @@ use Rattle.targets.specs.Sixteen.{sixteen_tests}
 use Rattle.targets.specs.Targets.{apart, joins_to, fewest_joins}
 use Rattle.targets.proofs.Literal.{pair_said, FirstOfFewest, nearest_literal, nearest_passes, sixteen_passes}
 use Rattle.build.specs.Build.{build_outcome, build_of}
-use Rattle.build.specs.declared.Built.TheVariants.{Entries}
 use Rattle.theorems.specs.Demands.{Joins}
 use Rattle.theorems.specs.Targets.{ToTarget, NearestIs, TrulyNearest}
 use Rattle.theorems.proofs.Answers.{answer_true}
@@ -51,7 +51,7 @@ module _ {n w k : ℕ} {S L O labels counts : List ℕ} (h : Held n w k S L O la
       (answer_true h whole v (get_or fs i 0) p q)
 
   -- no refusal for at most sixteen records of frames below n
-  pub nearest_taken : (asked : ℕ) → asked < n → nearest_tests n w labels counts asked fs ≡ Fine
+  pub nearest_taken : (asked : ℕ) → asked < n → nearest_tests n w labels counts asked fs ≡ fine
   nearest_taken asked p =
       nearest_passes (record {
         rooms = h.rooms;
@@ -61,7 +61,7 @@ module _ {n w k : ℕ} {S L O labels counts : List ℕ} (h : Held n w k S L O la
         sound = λ i l. sound (get_or fs i 0) (frames.low i l);
       })
 
-  pub sixteen_taken : sixteen_tests n w labels counts fs ≡ Fine
+  pub sixteen_taken : sixteen_tests n w labels counts fs ≡ fine
   sixteen_taken = sixteen_passes (record { rooms = h.rooms; frames = frames; sound = sound })
 
   -- the record named is the first of those truly fewest joins away
@@ -112,7 +112,7 @@ module _ {n w k : ℕ} {S L O labels counts : List ℕ} (h : Held n w k S L O la
 -- ---- of the rooms of an unrefused build to k = n
 
 module _ (n w : ℕ) (S L O labels counts met queue : List ℕ) (entries : ℕ) (labels' counts' met' queue' : List ℕ)
-    (built : build_outcome (Entries entries) labels' counts' met' queue' ≡ build_of n w n S L O labels counts met queue)
+    (built : build_outcome (Ok entries) labels' counts' met' queue' ≡ build_of n w n S L O labels counts met queue)
     (fs : List ℕ) (frames : FramesIn n fs) where
   made : Held n w n S L O labels' counts'
   made = built_held (built_tests n w n S L O labels counts met queue entries labels' counts' met' queue' built)

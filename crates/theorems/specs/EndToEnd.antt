@@ -1,11 +1,11 @@
 -- From the links handed in to an answer asked of a file read back: what a reader may hold against demands 2 and 3.
-use Rattle.std.specs.Prelude.{ℕ, ◌≡◌, List, replicate}
+use Rattle.file.specs.Reader.{Opened, indexed}
+use Rattle.file.specs.Writer.{Written}
+use Rattle.std.specs.Prelude.{ℕ, ◌≡◌, List, replicate, Ok}
 use Rattle.basics.specs.Places.{sum}
 use Rattle.rows.specs.Pair.{pair_of}
 use Rattle.fields.specs.Layout.{file_size}
 use Rattle.file.specs.Index.{stored, SameIndex}
-use Rattle.file.specs.declared.Opened.{Opened}
-use Rattle.file.specs.declared.Written.{Written}
 use Rattle.theorems.specs.Demands.{Demands}
 
 -- An unrefused build of `entries` entries left labels and counts; these were written and read back: what the writer and the
@@ -20,9 +20,9 @@ pub record EndToEnd (n w k : ℕ) (S L O : List ℕ) (entries : ℕ) (labels cou
   -- the rooms of the build meet demands 2 and 3
   pub built : Demands n w k S L O labels counts
   -- the writer isn't refused, and gives the bytes it filled
-  pub size : written ≡ Written.Bytes (file_size n entries)
+  pub size : written ≡ Ok (file_size n entries)
   -- the reader isn't refused, and hands back n and k
-  pub index : opened ≡ Opened.Index n k
+  pub index : opened ≡ indexed n k
   -- a file read back with the W it was written with gives the same index
   pub same : SameIndex (stored n w k O labels counts) (stored n w k order₂ labels₂ counts₂)
   -- every pair gets from the read-back rooms the very answer that the built ones give, a refusal of either frame included

@@ -1,8 +1,7 @@
 -- Demand 3 carried over to the targets: what an index of all hubs says of them is true of the links handed in.
-use Rattle.std.specs.Prelude.{ℕ, ◌≤◌, ◌<◌, List, length, get_or}
+use Rattle.targets.specs.Nearest.{NearestTarget}
+use Rattle.std.specs.Prelude.{ℕ, ◌≤◌, ◌<◌, List, length, get_or, Ok, Err, Some, None}
 use Rattle.theory.specs.Chains.{joins, Least}
-use Rattle.targets.specs.declared.nearest.NearestTarget.{NearestTarget}
-use Rattle.targets.specs.declared.nearest.NearestTarget.TheVariants.{Record, None, Refused}
 use Rattle.theorems.specs.Demands.{Joins}
 
 -- a chain of m links from v to the frame of some record
@@ -21,6 +20,6 @@ pub record NearestIs (S L : List ℕ) (asked : ℕ) (fs : List ℕ) (i : ℕ) : 
 
 -- what is said of the nearest target is true: a record named is it, and none is said exactly if no chain leads to any
 unfoldable pub TrulyNearest : List ℕ → List ℕ → ℕ → List ℕ → NearestTarget → Type 0
-TrulyNearest S L asked fs (Record i) = NearestIs S L asked fs i
-TrulyNearest S L asked fs None = (m : ℕ) → ToTarget S L fs asked m → ⊥
-TrulyNearest S L asked fs (Refused r) = ⊥
+TrulyNearest S L asked fs (Ok (Some i)) = NearestIs S L asked fs i
+TrulyNearest S L asked fs (Ok None) = (m : ℕ) → ToTarget S L fs asked m → ⊥
+TrulyNearest S L asked fs (Err r) = ⊥

@@ -1,6 +1,6 @@
 -- Meeting the neighbours of a frame, one place of its list a turn: the queue as it was, then the frames that this list
 -- added.
-use Prim.Native.Nat.{ℕ, ◌+◌, ◌≤◌, ◌<◌}
+use Prim.Native.Nat.{ℕ, ◌+◌, ◌<◌}
 use mathlib.Core.Path.{◌≡◌, refl, sym, ap, ◌∙◌}
 use mathlib.Core.List.{List}
 use native.Mathlib.Decide.{ℕ_discrete}
@@ -11,8 +11,8 @@ use Rattle.basics.proofs.Laws.{by_cases, cases, lt_or_ge, set_cases}
 use Rattle.walk.specs.Inner.{Queued, Grown}
 use Rattle.walk.proofs.BfsQueue.{push, room}
 
-module _ (S L : List ℕ) (u mark : ℕ) {M Q : List ℕ} {tail : ℕ} where
-  pub grown_none : Queued M Q tail → Grown S L u (get_or S u 0) mark M Q tail M Q tail
+module _ (list : List ℕ) (mark : ℕ) {M Q : List ℕ} {tail : ℕ} where
+  pub grown_none : Queued M Q tail → Grown list 0 mark M Q tail M Q tail
   grown_none line =
       record {
         line = line;
@@ -22,12 +22,12 @@ module _ (S L : List ℕ) (u mark : ℕ) {M Q : List ℕ} {tail : ℕ} where
         old = λ v h. refl;
         fresh = λ i h k. absurd (omega arith);
         new = λ v e h. absurd (omega arith);
-        all = λ at h k. absurd (omega arith);
+        all = λ i h. absurd (omega arith);
       }
 
-  module _ {at tail' : ℕ} {M' Q' : List ℕ} (g : Grown S L u at mark M Q tail M' Q' tail') (v : ℕ) (e : v ≡ get_or L at 0) where
+  module _ {at tail' : ℕ} {M' Q' : List ℕ} (g : Grown list at mark M Q tail M' Q' tail') (v : ℕ) (e : v ≡ get_or list at 0) where
     -- the frame at this place is met already
-    pub grown_old : 0 < get_or M' v 0 → Grown S L u (at + 1) mark M Q tail M' Q' tail'
+    pub grown_old : 0 < get_or M' v 0 → Grown list (at + 1) mark M Q tail M' Q' tail'
     grown_old met =
         record {
           line = g.line;
@@ -37,14 +37,14 @@ module _ (S L : List ℕ) (u mark : ℕ) {M Q : List ℕ} {tail : ℕ} where
           old = g.old;
           fresh = g.fresh;
           new = g.new;
-          all = λ i h k.
+          all = λ i k.
               by_cases (ℕ_discrete i at)
               (λ (q : i ≡ at). rw (q, ← e) met)
-              (λ q. g.all i h (omega arith));
+              (λ q. g.all i (omega arith));
         }
 
     -- it is not met yet
-    module _ (from : get_or S u 0 ≤ at) (upto : at < get_or S (u + 1) 0) (h : v < length M) (none : get_or M' v 0 ≡ 0) (some : 0 < mark) where
+    module _ (place : at < length list) (h : v < length M) (none : get_or M' v 0 ≡ 0) (some : 0 < mark) where
       inside : v < length M'
       inside = omega (arith, g.long)
 
@@ -58,7 +58,7 @@ module _ (S L : List ℕ) (u mark : ℕ) {M Q : List ℕ} {tail : ℕ} where
       was_none : get_or M v 0 ≡ 0
       was_none = lt_or_ge 0 (get_or M v 0) (λ p. absurd (omega (arith, g.old v p))) (λ p. omega arith)
 
-      pub grown_new : Grown S L u (at + 1) mark M Q tail (set M' v mark) (set Q' tail' v) (tail' + 1)
+      pub grown_new : Grown list (at + 1) mark M Q tail (set M' v mark) (set Q' tail' v) (tail' + 1)
       grown_new =
           record {
             line = push g.line v mark inside none some;
@@ -73,12 +73,12 @@ module _ (S L : List ℕ) (u mark : ℕ) {M Q : List ℕ} {tail : ℕ} where
                 (λ s. ap (λ (k : ℕ). get_or M k 0) s.1 ∙ g.fresh i p (omega (arith, s.0)));
             new = λ w p q.
                 cases (set_cases M' v w mark 0 inside)
-                (λ s. (s.1, record { at = at; from = from; upto = upto; holds = sym e ∙ sym s.0; costs = refl }))
+                (λ s. (s.1, at, place, sym e ∙ sym s.0))
                 (λ s.
-                let (l, k) = g.new w p (omega (arith, s.1)) in
-                (s.1 ∙ l, k));
-            all = λ i p q.
+                let (l, i, k, q) = g.new w p (omega (arith, s.1)) in
+                (s.1 ∙ l, i, k, q));
+            all = λ i q.
                 by_cases (ℕ_discrete i at)
                 (λ (z : i ≡ at). rw (z, ← e, get_or-set_same M' v mark 0 inside) some)
-                (λ z. now_met (get_or L i 0) (g.all i p (omega arith)));
+                (λ z. now_met (get_or list i 0) (g.all i (omega arith)));
           }

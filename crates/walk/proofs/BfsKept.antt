@@ -6,20 +6,25 @@ use mathlib.Core.Logic.{inl, inr}
 use mathlib.Core.Bool.{Bool, false}
 use mathlib.Core.List.{List}
 use native.Mathlib.Omega.{arith}
-use lib.ListN.{get_or}
+use lib.ListN.{length, get_or}
 use borrow.Author.Count.{below_more}
 use Rattle.basics.proofs.Laws.{cases, lt_or_ge}
-use Rattle.theory.specs.Links.{Link}
+use Rattle.theory.specs.Links.{Block, Link}
 use Rattle.theory.specs.Plain.{ones}
-use Rattle.walk.specs.Inner.{Grown, Bfs, Kept, met_at}
+use Rattle.theory.proofs.DistWeight.{link_inside}
+use Rattle.walk.specs.Inner.{list_at, Grown, Bfs, Kept, met_at}
+use Rattle.walk.proofs.BfsLists.{list_link, link_listed}
 use Rattle.walk.proofs.BfsStep.{Carried, done_stays, parent_stays}
 
 module _ {n : ℕ} {S L : List ℕ} {drop : ℕ → ℕ → Bool} {hub : ℕ} {M Q : List ℕ} {head tail : ℕ}
     (b : Bfs n S L drop hub M Q head tail) (more : head < tail) where
   module _ (mark : ℕ) (is : get_or M (get_or Q head 0) 0 ≡ mark) {r : Bool} (says : r ≡ drop (get_or Q head 0) (mark - 1))
-      (free : r ≡ false) (frames : n ≤ 4096)
-      {M' Q' : List ℕ} {tail' : ℕ}
-      (g : Grown S L (get_or Q head 0) (get_or S (get_or Q head 0 + 1) 0) (mark + 1) M Q tail M' Q' tail') where
+      (free : r ≡ false) (frames : n ≤ 4096) (block : Block n 1 S L ones)
+      {list M' Q' : List ℕ} {tail' : ℕ} (listed : list ≡ list_at S L (get_or Q head 0))
+      (g : Grown list (length list) (mark + 1) M Q tail M' Q' tail') where
+    inside : get_or Q head 0 < n
+    inside = omega (arith, b.line.low head more, b.long)
+
     old_met : (i : ℕ) → i < tail → get_or M' (get_or Q i 0) 0 ≡ get_or M (get_or Q i 0) 0
     old_met i p = g.old (get_or Q i 0) (b.line.is_met i p)
 
@@ -31,8 +36,8 @@ module _ {n : ℕ} {S L : List ℕ} {drop : ℕ → ℕ → Bool} {hub : ℕ} {M
         lt_or_ge i tail
         (λ l. old l (g.front i l) (ap (λ (k : ℕ). get_or M' k 0) (g.front i l) ∙ old_met i l))
         (λ l.
-        let (e, k) = g.new (get_or Q' i 0) (g.fresh i l p) (g.line.is_met i p) in
-        new l e k)
+        let (e, at, h, k) = g.new (get_or Q' i 0) (g.fresh i l p) (g.line.is_met i p) in
+        new l e (list_link block inside (get_or Q' i 0) at (omega (arith, ap length listed)) (ap (λ (k : List ℕ). get_or k at 0) (sym listed) ∙ k)))
 
     -- the mark that this frame was met with
     own : met_at M (get_or Q head 0) ≡ mark
@@ -58,7 +63,9 @@ module _ {n : ℕ} {S L : List ℕ} {drop : ℕ → ℕ → Bool} {hub : ℕ} {M
 
     -- a neighbour is met, and at most one level on
     met_next : (v : ℕ) → Link S L ones (get_or Q head 0) v 1 → 0 < get_or M' v 0
-    met_next v l = rw l.holds at (g.all l.at l.from l.upto)
+    met_next v l =
+        let (at, h, is) = link_listed block inside v l in
+        rw (ap (λ (k : List ℕ). get_or k at 0) listed ∙ is) at (g.all at (omega (arith, ap length listed)))
 
     met_most : (v : ℕ) → v < n → 0 < get_or M' v 0 → met_at M' v ≤ mark + 1
     met_most v p m =
@@ -68,21 +75,21 @@ module _ {n : ℕ} {S L : List ℕ} {drop : ℕ → ℕ → Bool} {hub : ℕ} {M
         let e : met_at M (get_or Q i 0) ≡ met_at M v = ap (met_at M) q in
         omega (arith, met_at_lem v o, b.near i more l, own))
         (λ z.
-        let (e, k) = g.new v (omega arith) m in
+        let (e, at, h, k) = g.new v (omega arith) m in
         omega (arith, few))
 
-    own_kept : ((v : ℕ) → Link S L ones (get_or Q head 0) v 1 → v < n) → Kept S L drop M' (get_or Q head 0)
-    own_kept low =
+    own_kept : Kept S L drop M' (get_or Q head 0)
+    own_kept =
         let at : met_at M' (get_or Q head 0) ≡ mark = met_at_lem (get_or Q head 0) (b.line.is_met head more) ∙ own in
         record {
           plain = omega (arith, old_met head more, is, few);
           free = ap (λ (l : ℕ). drop (get_or Q head 0) (l - 1)) at ∙ sym says ∙ free;
           met_all = met_next;
-          next = λ v l. omega (arith, met_most v (low v l) (met_next v l));
+          next = λ v l. omega (arith, met_most v (link_inside block inside l) (met_next v l));
         }
 
-    pub bfs_keep : ((v : ℕ) → Link S L ones (get_or Q head 0) v 1 → v < n) → Bfs n S L drop hub M' Q' (head + 1) tail'
-    bfs_keep low =
+    pub bfs_keep : Bfs n S L drop hub M' Q' (head + 1) tail'
+    bfs_keep =
         record {
           long = g.long ∙ b.long;
           line = g.line;
@@ -133,5 +140,5 @@ module _ {n : ℕ} {S L : List ℕ} {drop : ℕ → ℕ → Bool} {hub : ℕ} {M
                 kept = rw this (omega (arith, old_met head more, is, few));
                 met_at = rw this (omega (arith, met_at_lem (get_or Q head 0) (b.line.is_met head more), own, few));
               }));
-          done = below_more _ head (λ i p. done_stays kept_carried i p (b.done i p)) (rw this (inl (own_kept low)));
+          done = below_more _ head (λ i p. done_stays kept_carried i p (b.done i p)) (rw this (inl own_kept));
         }

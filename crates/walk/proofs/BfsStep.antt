@@ -1,6 +1,6 @@
 -- One frame of the walk, the one at place `head` of the queue. Whether it is dropped or kept, what was done before it stays
--- done, and its level is below n.
-use Prim.Native.Nat.{ℕ, ◌+◌, ◌-◌, ◌%◌, ◌≤◌, ◌<◌}
+-- done.
+use Prim.Native.Nat.{ℕ, ◌+◌, ◌-◌, ◌%◌, ◌<◌}
 use mathlib.Core.Path.{◌≡◌, ap, ◌∙◌}
 use mathlib.Core.Logic.{◌⊎◌, inl, inr}
 use mathlib.Core.Bool.{Bool}
@@ -8,7 +8,7 @@ use mathlib.Core.List.{List}
 use native.Mathlib.Omega.{arith}
 use lib.ListN.{get_or}
 use Rattle.basics.proofs.Laws.{cases, once_same}
-use Rattle.walk.specs.Inner.{Bfs, StepIn, drops, Kept, Dropped, Parent, met_at}
+use Rattle.walk.specs.Inner.{Bfs, Kept, Dropped, Parent, met_at}
 
 -- ---- what is done stays done
 
@@ -58,17 +58,6 @@ module _ {n : ℕ} {S L : List ℕ} {drop : ℕ → ℕ → Bool} {hub : ℕ} {M
   pub apart : (i : ℕ) → i < tail → (i ≡ head → ⊥) → get_or Q i 0 ≡ get_or Q head 0 → ⊥
   apart i p q e = q (once_same tail (λ k. get_or Q k 0) b.line.once i head p more e)
 
--- the frame at the head is met, not dropped, and its level is below n
-module _ {n w : ℕ} {S L labels counts noted M Q : List ℕ} {head tail : ℕ}
-    (s : StepIn n w S L labels counts noted M Q head tail) where
-  b : Bfs n S L (drops w labels counts noted) (get_or Q 0 0) M Q head tail
-  b = s.so_far
-
+  -- the frame at the head is one of the n
   pub head_in : get_or Q head 0 < n
-  head_in = omega (arith, b.line.low head s.more, b.long)
-
-  pub head_met : 1 ≤ get_or M (get_or Q head 0) 0
-  head_met = b.line.is_met head s.more
-
-  pub head_low : get_or M (get_or Q head 0) 0 ≤ n
-  head_low = omega (arith, b.plain head (omega arith) s.more, b.short head s.more, b.line.few, b.long)
+  head_in = omega (arith, b.line.low head more, b.long)

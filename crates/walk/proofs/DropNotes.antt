@@ -15,20 +15,26 @@ use borrow.Author.Tests.{eq-eqb, ne_eqb, eqb-true, eqb-false}
 use Rattle.basics.proofs.Laws.{bcase, by_cases, cases, not_both, cond_true, cond_false, either_true, either_false, neither}
 use Rattle.theory.specs.Rows.{at}
 use Rattle.entry.specs.Entry.{rank_of, joins_of, decode}
-use Rattle.walk.specs.Inner.{note_of, noted_by}
+use Rattle.walk.specs.Inner.{noted_by}
 
 -- one turn of the loop
-pub note_on : (forget : Bool) (row noted : List ℕ) (i : ℕ) → i < length row
-    → noted_by forget (drop i row) noted
-    ≡ noted_by forget (drop (i + 1) row) (set noted (rank_of (get_or row i 0)) (note_of forget (get_or row i 0)))
+note_on : (note : ℕ → ℕ) (row noted : List ℕ) (i : ℕ) → i < length row
+    → noted_by note (drop i row) noted
+    ≡ noted_by note (drop (i + 1) row) (set noted (rank_of (get_or row i 0)) (note (get_or row i 0)))
 unfolding noted_by
-note_on forget row noted i h = rw (add-one i, drop-cons row i 0 h)
+note_on note row noted i h = rw (add-one i, drop-cons row i 0 h)
 
-pub note_long : (forget : Bool) (row noted : List ℕ) → length (noted_by forget row noted) ≡ length noted
+pub note_long : (note : ℕ → ℕ) (row noted : List ℕ) → length (noted_by note row noted) ≡ length noted
 unfolding noted_by
-note_long forget [] noted = refl
-note_long forget (e ∷ es) noted =
-    note_long forget es (set noted (rank_of e) (note_of forget e)) ∙ length-set noted (rank_of e) (note_of forget e)
+note_long note [] noted = refl
+note_long note (e ∷ es) noted = note_long note es (set noted (rank_of e) (note e)) ∙ length-set noted (rank_of e) (note e)
+
+pub note_turn : (note : ℕ → ℕ) (row lent noted : List ℕ) {i rank joins : ℕ} → i < length row
+    → (length noted ≡ length lent) × (noted_by note (drop i row) noted ≡ noted_by note row lent)
+    → rank ≡ rank_of (get_or row i 0) → joins ≡ note (get_or row i 0)
+    → (length (set noted rank joins) ≡ length lent) × (noted_by note (drop (i + 1) row) (set noted rank joins) ≡ noted_by note row lent)
+note_turn note row lent noted {i} {rank} {joins} h was is told =
+    (length-set noted rank joins ∙ was.0, rw (is, told) (sym (note_on note row noted i h) ∙ was.1))
 
 -- ---- which ranks a row has
 
@@ -37,8 +43,8 @@ has_rank [] r = false
 has_rank (e ∷ es) r = eqb (rank_of e) r || has_rank es r
 
 -- a rank that the row lacks keeps its note
-note_other : (row noted : List ℕ) (r : ℕ) → has_rank row r ≡ false → get_or (noted_by false row noted) r 0 ≡ get_or noted r 0
-unfolding noted_by note_of has_rank
+note_other : (row noted : List ℕ) (r : ℕ) → has_rank row r ≡ false → get_or (noted_by joins_of row noted) r 0 ≡ get_or noted r 0
+unfolding noted_by has_rank
 note_other [] noted r h = refl
 note_other (e ∷ es) noted r h =
     let (one, rest) = either_false (eqb (rank_of e) r) (has_rank es r) h in
@@ -47,8 +53,8 @@ note_other (e ∷ es) noted r h =
 
 -- where each rank has 65,536 or stands in the row, forgetting leaves 65,536
 forget_all : (row noted : List ℕ) (r : ℕ) → r < length noted → (get_or noted r 0 ≡ 65536) ⊎ (has_rank row r ≡ true)
-    → get_or (noted_by true row noted) r 0 ≡ 65536
-unfolding noted_by note_of has_rank
+    → get_or (noted_by (λ _. 65536) row noted) r 0 ≡ 65536
+unfolding noted_by has_rank
 forget_all [] noted r h was = cases was (λ e. e) (λ e. not_both e refl)
 forget_all (e ∷ es) noted r h was =
     forget_all es (set noted (rank_of e) 65536) r (omega (arith, length-set noted (rank_of e) 65536))
@@ -64,15 +70,15 @@ forget_all (e ∷ es) noted r h was =
     (λ rest. inr rest))))
 
 -- noting a row and forgetting it brings the table back
-pub note_forget : (row : List ℕ) (m : ℕ) → noted_by true row (noted_by false row (replicate m 65536)) ≡ replicate m 65536
+pub note_forget : (row : List ℕ) (m : ℕ) → noted_by (λ _. 65536) row (noted_by joins_of row (replicate m 65536)) ≡ replicate m 65536
 note_forget row m =
     let far : List ℕ = replicate m 65536 in
-    let noted : List ℕ = noted_by false row far in
-    ext_get_or 0 (noted_by true row noted) far (note_long true row noted ∙ note_long false row far)
+    let noted : List ℕ = noted_by joins_of row far in
+    ext_get_or 0 (noted_by (λ _. 65536) row noted) far (note_long (λ _. 65536) row noted ∙ note_long joins_of row far)
     (λ r h.
-    let inside : r < m = omega (arith, note_long true row noted, note_long false row far, length-replicate {A = ℕ} m 65536) in
+    let inside : r < m = omega (arith, note_long (λ _. 65536) row noted, note_long joins_of row far, length-replicate {A = ℕ} m 65536) in
     let given : get_or far r 0 ≡ 65536 = get_or-replicate m r 65536 0 inside in
-    forget_all row noted r (omega (arith, note_long true row noted))
+    forget_all row noted r (omega (arith, note_long (λ _. 65536) row noted))
     (bcase (has_rank row r) inr (λ out. inl (note_other row far r out ∙ given)))
     ∙ sym given)
 
@@ -97,8 +103,8 @@ above (e ∷ es) r up =
 -- of a row with rising ranks, over a table that has 65,536 for the rank
 pub notes_at : (B : ℕ) (row noted : List ℕ) (r : ℕ) → B ≤ 65536 → r < length noted → get_or noted r 0 ≡ 65536
     → ((i j : ℕ) → i < j → j < length row → rank_of (get_or row i 0) < rank_of (get_or row j 0))
-    → at B (decode row) r ≡ min B (get_or (noted_by false row noted) r 0)
-unfolding noted_by note_of at decode
+    → at B (decode row) r ≡ min B (get_or (noted_by joins_of row noted) r 0)
+unfolding noted_by at decode
 notes_at B [] noted r b h far up = omega arith
 notes_at B (e ∷ es) noted r b h far up =
     let next : List ℕ = set noted (rank_of e) (joins_of e) in

@@ -1,4 +1,5 @@
 pub mod BfsQueue
+pub mod BfsLists
 pub mod BfsGrown
 pub mod BfsStep
 pub mod BfsDropped
@@ -11,4 +12,5 @@ pub mod DropWithin
 pub mod DropRow
 pub mod RoomClear
 pub mod RoomMarks
+pub mod RoomFrames
 pub mod RoomWalk

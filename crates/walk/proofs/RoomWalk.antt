@@ -14,9 +14,8 @@ use Rattle.theory.specs.Rows.{Row, keep}
 use Rattle.theory.specs.Walk.{walk_row}
 use Rattle.rows.specs.Inner.{Laid}
 use Rattle.rows.specs.Laid.{rows_in}
-use Rattle.walk.specs.Walk.{so_far, level_of, kept, walk_fits, decided, walked_rows, walk_near, walk_of, if_made}
+use Rattle.walk.specs.Walk.{Walked, so_far, level_of, kept, walk_fits, decided, walked_rows, walk_near, walk_of, if_made}
 use Rattle.walk.specs.Inner.{mark, met_room, ExploreIn, is_kept, lacks_room, is_far, fits_all, none_far, gain, rows_after, settle_of, WalkOut}
-use Rattle.walk.specs.declared.Walked.{Walked}
 use Rattle.walk.proofs.BfsWalk.{capped}
 use Rattle.rows.proofs.LaidLaws.{laid_ext}
 use Rattle.walk.proofs.RoomMarks.{mark_yes, mark_drop, mark_none, kept_mark, unmet_mark, dropped_mark}

@@ -1,8 +1,8 @@
 -- What the inner functions of one hub's walk ask of each other and promise. The search: what it needs of the rooms, what it
 -- leaves in the queue, and what holds between two frames of it. `noted` is the hub's row by rank: its joins, and `lacking`
 -- where the row lacks the rank. Then the stores, told by the met room. Last what `walk` asks of the build, and what it promises.
-use Rattle.std.specs.Prelude.{ℕ, ◌+◌, ◌-◌, ◌*◌, ◌%◌, ◌≤◌, ◌<◌, ◌≡◌, ◌⊎◌, Bool, true, false, cond, not, ◌&&◌, List, [], ◌∷◌, ◌++◌, length, get_or, set, replicate, leb, ltb}
-use Rattle.basics.specs.Places.{some, table}
+use Rattle.std.specs.Prelude.{ℕ, ◌+◌, ◌-◌, ◌*◌, ◌%◌, ◌≤◌, ◌<◌, ◌≡◌, ◌⊎◌, Bool, true, false, cond, not, ◌&&◌, List, [], ◌∷◌, ◌++◌, length, get_or, take, drop, set, replicate, leb, ltb}
+use Rattle.basics.specs.Places.{some, stands, table}
 use Rattle.refusal.specs.Sizes.{most_frames, most_joins}
 use Rattle.theory.specs.Distance.{far}
 use Rattle.theory.specs.Links.{Block, Link}
@@ -12,8 +12,8 @@ use Rattle.entry.specs.Entry.{rank_of, joins_of}
 use Rattle.rows.specs.Rooms.{row_at}
 use Rattle.rows.specs.Inner.{Laid}
 use Rattle.rows.specs.Laid.{rows_in}
-use Rattle.walk.specs.Walk.{level_of, so_far, decided, if_made, walked_rows, walk_of}
-use Rattle.walk.specs.declared.Walked.{Walked}
+use Rattle.std.specs.List.{list_any}
+use Rattle.walk.specs.Walk.{Walked, level_of, so_far, decided, if_made, walked_rows, walk_of}
 
 -- ---- what the rooms hold
 
@@ -66,6 +66,18 @@ pub record Queued (met queue : List ℕ) (tail : ℕ) : Type 0 where
   pub once : (i j : ℕ) → i < j → j < tail → get_or queue i 0 ≡ get_or queue j 0 → ⊥
   pub rest : (i : ℕ) → tail ≤ i → get_or queue i 0 ≡ 0
 
+-- frame v stands at one of the first i places of the list
+abbrev pub stood : List ℕ → ℕ → ℕ → Bool
+stood frames i v = stands (λ j. get_or frames j 0) i v
+
+-- The list holds the frames that the met room marks, each once: the part of the queue that a walk has filled.
+pub record Listed (met frames : List ℕ) : Type 0 where
+  pub few : length frames ≤ length met
+  pub low : (i : ℕ) → i < length frames → get_or frames i 0 < length met
+  pub is_met : (i : ℕ) → i < length frames → 0 < get_or met (get_or frames i 0) 0
+  pub all : (v : ℕ) → v < length met → 0 < get_or met v 0 → stood frames (length frames) v ≡ true
+  pub once : (i j : ℕ) → i < j → j < length frames → get_or frames i 0 ≡ get_or frames j 0 → ⊥
+
 -- a frame that is not dropped has a level below `tail`: its mark is the level + 1
 pub record Low (met : List ℕ) (tail : ℕ) : Type 0 where
   pub mark : (v : ℕ) → v < length met → get_or met v 0 < drop_mark → get_or met v 0 ≤ tail
@@ -74,56 +86,55 @@ pub record Low (met : List ℕ) (tail : ℕ) : Type 0 where
 abbrev pub met_at : List ℕ → ℕ → ℕ
 met_at met v = get_or met v 0 % drop_mark
 
--- what is noted for an entry: its joins, or `lacking` where its rank is forgotten
-unfoldable pub note_of : Bool → ℕ → ℕ
-note_of forget e = cond forget lacking (joins_of e)
+-- a table with this note of each entry of a row stored at its rank
+unfoldable pub noted_by : (ℕ → ℕ) → List ℕ → List ℕ → List ℕ
+noted_by note [] noted = noted
+noted_by note (e ∷ es) noted = noted_by note es (set noted (rank_of e) (note e))
 
--- a table with the notes of a row stored by rank
-unfoldable pub noted_by : Bool → List ℕ → List ℕ → List ℕ
-noted_by forget [] noted = noted
-noted_by forget (e ∷ es) noted = noted_by forget es (set noted (rank_of e) (note_of forget e))
-
--- entry i of the row and the noted joins of its rank give a sum of at most the level
-abbrev pub entry_within : List ℕ → List ℕ → ℕ → ℕ → Bool
-entry_within noted row level i = leb (joins_of (get_or row i 0) + get_or noted (rank_of (get_or row i 0)) 0) level
+-- the entry and the noted joins of its rank give a sum of at most the level
+abbrev pub entry_within : List ℕ → ℕ → ℕ → Bool
+entry_within noted level e = leb (joins_of e + get_or noted (rank_of e) 0) level
 
 -- the answer for the noted row and this row is at most the level: some entry says so
 unfoldable pub row_within : List ℕ → List ℕ → ℕ → Bool
-row_within noted row level = some (entry_within noted row level) 0 (length row)
+row_within noted row level = list_any (entry_within noted level) row
 
 -- the same for the row of u
 unfoldable pub drops : ℕ → List ℕ → List ℕ → List ℕ → ℕ → ℕ → Bool
 drops w labels counts noted u level = row_within noted (row_at w labels counts u) level
 
--- the row of v, one of n rising rows in a label room of n * w places
-pub record RisingRow (n w : ℕ) (labels counts : List ℕ) (v : ℕ) : Type 0 where
-  pub labels_long : length labels ≡ n * w
+-- n rising rows in a label room of n * w places
+pub record RowsRise (n w : ℕ) (labels counts : List ℕ) : Type 0 where
+  pub long : length labels ≡ n * w
   pub rows : RisingRows n w labels counts
-  pub frame : v < n
 
--- what the drop test of u needs: its row, and a note for every rank
-pub record DropIn (n w : ℕ) (labels counts noted : List ℕ) (u : ℕ) : Type 0 where
-  pub row : RisingRow n w labels counts u
-  pub notes : n ≤ length noted
+-- the list of v lies in the places
+pub record ListLies (S L : List ℕ) (v : ℕ) : Type 0 where
+  pub started : v + 1 < length S
+  pub rise : get_or S v 0 ≤ get_or S (v + 1) 0
+  pub lies : get_or S (v + 1) 0 ≤ length L
 
--- what meeting the neighbours of u needs: a block, and room for frame numbers
-pub record MeetIn (S L : List ℕ) (u mark : ℕ) (met queue : List ℕ) (tail : ℕ) : Type 0 where
-  pub block : Block (length met) 1 S L ones
-  pub frames : length met ≤ 4096
-  pub frame : u < length met
+-- the list of v: its part of the places
+unfoldable pub list_at : List ℕ → List ℕ → ℕ → List ℕ
+list_at S L v = take (get_or S (v + 1) 0 - get_or S v 0) (drop (get_or S v 0) L)
+
+-- what meeting the frames of a list needs: they are frames, and the mark says met
+pub record MeetIn (list : List ℕ) (mark : ℕ) (met queue : List ℕ) (tail : ℕ) : Type 0 where
+  pub low : (i : ℕ) → i < length list → get_or list i 0 < length met
   pub some : 0 < mark
   pub line : Queued met queue tail
 
--- The frames in the list of u from its start up to place `upto` are met: those not met before with this mark, behind the old queue.
-pub record Grown (S L : List ℕ) (u upto mark : ℕ) (met queue : List ℕ) (tail : ℕ) (met' queue' : List ℕ) (tail' : ℕ) : Type 0 where
+-- The first `upto` frames of the list are met: those not met before with this mark, behind the old queue.
+pub record Grown (list : List ℕ) (upto mark : ℕ) (met queue : List ℕ) (tail : ℕ) (met' queue' : List ℕ) (tail' : ℕ) : Type 0 where
   pub line : Queued met' queue' tail'
   pub long : length met' ≡ length met
   pub more : tail ≤ tail'
   pub front : (i : ℕ) → i < tail → get_or queue' i 0 ≡ get_or queue i 0
   pub old : (v : ℕ) → 0 < get_or met v 0 → get_or met' v 0 ≡ get_or met v 0
   pub fresh : (i : ℕ) → tail ≤ i → i < tail' → get_or met (get_or queue' i 0) 0 ≡ 0
-  pub new : (v : ℕ) → get_or met v 0 ≡ 0 → 0 < get_or met' v 0 → (get_or met' v 0 ≡ mark) × Link S L ones u v 1
-  pub all : (at : ℕ) → get_or S u 0 ≤ at → at < upto → 0 < get_or met' (get_or L at 0) 0
+  pub new : (v : ℕ) → get_or met v 0 ≡ 0 → 0 < get_or met' v 0
+      → (get_or met' v 0 ≡ mark) × (i : ℕ) × (i < length list) × (get_or list i 0 ≡ v)
+  pub all : (i : ℕ) → i < upto → 0 < get_or met' (get_or list i 0) 0
 
 -- a frame that is not dropped: every neighbour is met, at most one level on
 pub record Kept (S L : List ℕ) (drop : ℕ → ℕ → Bool) (met : List ℕ) (u : ℕ) : Type 0 where
@@ -163,25 +174,6 @@ pub record Bfs (n : ℕ) (S L : List ℕ) (drop : ℕ → ℕ → Bool) (hub : �
   pub reason : (j : ℕ) → j < tail → (get_or queue j 0 ≡ hub) ⊎ Parent S L met queue head (get_or queue j 0)
   pub done : (i : ℕ) → i < head → Kept S L drop met (get_or queue i 0) ⊎ Dropped drop met (get_or queue i 0)
 
--- what a walk goes over: a block, and the drop test of every frame
-pub record WalkOver (n w : ℕ) (S L labels counts noted : List ℕ) : Type 0 where
-  pub frames : n ≤ 4096
-  pub block : Block n 1 S L ones
-  pub test : (u : ℕ) → u < n → DropIn n w labels counts noted u
-
--- a walk under way, with a frame to come
-pub record StepIn (n w : ℕ) (S L labels counts noted met queue : List ℕ) (head tail : ℕ) : Type 0 where
-  pub given : WalkOver n w S L labels counts noted
-  pub so_far : Bfs n S L (drops w labels counts noted) (get_or queue 0 0) met queue head tail
-  pub more : head < tail
-
--- a walk to begin
-pub record ReachIn (n w : ℕ) (S L labels counts noted : List ℕ) (hub : ℕ) (met queue : List ℕ) : Type 0 where
-  pub given : WalkOver n w S L labels counts noted
-  pub hub_in : hub < n
-  pub met_zero : met ≡ replicate n 0
-  pub queue_zero : queue ≡ replicate n 0
-
 -- ---- the stores
 
 -- the mark of a met frame that is kept: level + 1, below the mark of a dropped one
@@ -212,22 +204,21 @@ gain rank mark x = cond (is_kept mark) (x ++ ((rank, mark - 1) ∷ [])) x
 unfoldable pub rows_after : ℕ → ℕ → List ℕ → List ℕ → List ℕ → ℕ → Row
 rows_after w rank labels counts met v = gain rank (get_or met v 0) (rows_in w labels counts v)
 
--- v is met, its row lies in the label room, and has room for an entry if the mark says kept
+-- v is met, and if the mark says kept its row has room for an entry, at a place of the label room
 pub record GiveIn (w v mark : ℕ) (labels counts : List ℕ) : Type 0 where
   pub met : 0 < mark
   pub inside : v < length counts
-  pub long : length labels ≡ length counts * w
   pub width : w ≤ 256
-  pub room : is_kept mark ≡ true → get_or counts v 0 < w
+  pub room : mark < drop_mark → get_or counts v 0 < w
+  pub place : mark < drop_mark → v * w + get_or counts v 0 < length labels
 
 -- the rooms as they have to be when phase two begins
-pub record SettleIn (w : ℕ) (labels counts met queue : List ℕ) (tail : ℕ) : Type 0 where
-  pub frames : length met ≤ 4096
+pub record SettleIn (w : ℕ) (labels counts met frames : List ℕ) : Type 0 where
+  pub few : length met ≤ 4096
   pub wide : 1 ≤ w
   pub width : w ≤ 256
   pub laid : Laid (length met) w (rows_in w labels counts) labels counts
-  pub queued : Queued met queue tail
-  pub low : Low met tail
+  pub low : Low met (length frames)
 
 -- what a walk decides, by the marks of the met room
 unfoldable pub settle_of : ℕ → List ℕ → List ℕ → Walked

@@ -1,6 +1,6 @@
 -- One hub's walk over the rooms as they stand, by theory's levels: which frames it meets, at which level, which it keeps,
 -- whether each has room, and the rows after it.
-use Rattle.std.specs.Prelude.{ℕ, Bool, cond, not, ◌&&◌, List, get_or, leb, ltb}
+use Rattle.std.specs.Prelude.{ℕ, Bool, cond, not, ◌&&◌, List, get_or, leb, ltb, Result, Ok, Err, ⊤}
 use Rattle.basics.specs.Places.{some}
 use Rattle.refusal.specs.Sizes.{most_joins}
 use Rattle.theory.specs.Distance.{far}
@@ -8,8 +8,12 @@ use Rattle.theory.specs.Rows.{Row, answer}
 use Rattle.theory.specs.Walk.{levels, walk_row}
 use Rattle.theory.specs.Plain.{joined}
 use Rattle.rows.specs.Laid.{rows_in}
-use Rattle.walk.specs.declared.Walked.{Walked}
-use Rattle.walk.specs.declared.Walked.TheVariants.{Made, Full, Far}
+use Rattle.walk.specs.declared.Unmade.{Unmade}
+use Rattle.walk.specs.declared.Unmade.TheVariants.{Full, Far}
+
+-- what becomes of a walk: made as a whole, or why nothing of it is stored
+abbrev pub Walked : Type 0
+Walked = Result ⊤ Unmade
 
 -- the answer for (hub, u) from the rows so far
 unfoldable pub so_far : ℕ → ℕ → List ℕ → List ℕ → ℕ → ℕ → ℕ
@@ -30,13 +34,12 @@ walk_fits n w S L labels counts hub =
 
 -- the walk decides before it stores: ROOM first, then FAR
 abbrev pub decided : Bool → Bool → Walked
-decided fits near = cond fits (cond near Made Far) Full
+decided fits near = cond fits (cond near (Ok tt) (Err Far)) (Err Full)
 
 -- either the whole walk is made or the row stays
 unfoldable pub if_made : Walked → Row → Row → Row
-if_made Made after before = after
-if_made Full after before = before
-if_made Far after before = before
+if_made (Ok _) after before = after
+if_made (Err _) after before = before
 
 -- one hub's walk over the rows so far, whatever they are, by levels: the rows after it
 unfoldable pub walked_rows : ℕ → ℕ → List ℕ → List ℕ → List ℕ → List ℕ → ℕ → ℕ → ℕ → Row

@@ -1,81 +1,68 @@
--- `header` goes by the cases of its test, field by field; what it answers is told by the same tests.
-use Prim.Native.Nat.{ℕ, ◌+◌, ◌≤◌}
-use mathlib.Core.Path.{◌≡◌, sym, ap, ap₂, ◌∙◌}
+-- `header` makes the tests of its fields in their order; what it answers is told by the same tests.
+use Rattle.std.specs.Prelude.{Err}
+use Prim.Native.Nat.{ℕ, ◌+◌}
+use mathlib.Core.Path.{◌≡◌, ap, ap₂, ◌∙◌}
 use mathlib.Core.List.{List}
 use native.Mathlib.Omega.{arith}
-use borrow.Author.Rules.{rules}
+use Rattle.std.proofs.Common.{rules}
 use Rattle.refusal.specs.declared.Refusal.{Refusal}
-use Rattle.refusal.specs.declared.Verdict.{Verdict}
-use Rattle.fields.specs.Bits.{byte_len}
-use Rattle.file.specs.Reader.{frames_of, stop_of, header_test, header_of, opened_told}
-use Rattle.file.specs.declared.Opened.{Opened}
-use Rattle.file.proofs.Heading.{read_said, opened_fine, opened_refused, version_short, version_other, frames_short, stop_short, stop_over, spare_set, header_fine}
+use Rattle.file.specs.Reader.{frames_of, stop_of, header_test, header_of, opened_told, Opened, indexed}
+use Rattle.file.proofs.Heading.{read_said, opened_fine, opened_refused, at_version, at_stop}
+use Rattle.file.proofs.Steps.{step_stops, step_goes, test_stops, test_goes, went_on, stopped}
 use Rattle.fields.proofs.Bits.{field_lt}
 use Rattle.file.proofs.header.Goals as goal
 
 -- a refusal of the tests is what is answered
-refuses : (s : List ℕ) {a : Opened} {r : Refusal} → a ≡ Opened.Refused r → header_test s ≡ Verdict.Refused r
+refuses : (s : List ℕ) {a : Opened} {r : Refusal} → header_test s ≡ Err r → a ≡ Err r
     → record { given : a ≡ header_of s; said : opened_told a ≡ opened_told (header_of s) }
 unfolding header_of
-refuses s e h = read_said opened_told (e ∙ opened_refused _ _ h)
+refuses s e f = read_said opened_told (opened_refused _ _ e f)
 
-pub returns-then-bytes-lt-VERSION_BYTES : goal.returns-then-bytes-lt-VERSION_BYTES
-returns-then-bytes-lt-VERSION_BYTES c = refuses _ c.closed.ensures (version_short _ c.if-bytes-lt-VERSION_BYTES.true)
+pub returns-in_err-version : goal.returns-in_err-version
+unfolding header_test
+returns-in_err-version c = refuses _ (step_stops _ _ _ c.value.ensures c.in_err-version.was) (search rules)
 
-pub get-version-requires : goal.get-version-requires
-unfolding byte_len
-get-version-requires c = (search rules, omega arith)
+pub returns-in_err-test : goal.returns-in_err-test
+returns-in_err-test c =
+    refuses _ (at_version _ c.value.ensures c.in_ok-version.was ∙ test_stops _ c.test.ensures c.in_err-test.was) (search rules)
 
-pub returns-then-version-ne-VERSION_VALUE : goal.returns-then-version-ne-VERSION_VALUE
-returns-then-version-ne-VERSION_VALUE c = refuses _ c.closed-then-version-ne-VERSION_VALUE.ensures
-    (version_other _ c.if-bytes-lt-VERSION_BYTES.false (λ e. c.if-version-ne-VERSION_VALUE.true
-    (c.get-version.ensures ∙ e)))
-
-pub returns-then-bytes-lt-FRAMES_BYTES : goal.returns-then-bytes-lt-FRAMES_BYTES
-returns-then-bytes-lt-FRAMES_BYTES c =
-    refuses _ c.closed-then-bytes-lt-FRAMES_BYTES.ensures
-    (frames_short _ c.if-bytes-lt-VERSION_BYTES.false (sym c.get-version.ensures ∙ c.if-version-ne-VERSION_VALUE.false) c.if-bytes-lt-FRAMES_BYTES.true)
-
-pub returns-then-bytes-lt-HEADER_BYTES : goal.returns-then-bytes-lt-HEADER_BYTES
-returns-then-bytes-lt-HEADER_BYTES c =
-    refuses _ c.closed-then-bytes-lt-HEADER_BYTES.ensures
-    (stop_short _ c.if-bytes-lt-FRAMES_BYTES.false (sym c.get-version.ensures ∙ c.if-version-ne-VERSION_VALUE.false) c.if-bytes-lt-HEADER_BYTES.true)
-
-pub get-n-requires : goal.get-n-requires
-unfolding byte_len
-get-n-requires c = (search rules, omega arith)
+pub returns-in_err-n : goal.returns-in_err-n
+returns-in_err-n c =
+    refuses _
+    (at_version _ c.value.ensures c.in_ok-version.was ∙ test_goes _ c.test.ensures c.in_ok-test.was ∙ step_stops _ _ _ c.value-2.ensures c.in_err-n.was)
+    (search rules)
 
 pub overflow_add-n : goal.overflow_add-n
-overflow_add-n c = omega (arith, c.get-n.ensures, field_lt c.args.bytes.now 4 12)
+overflow_add-n c =
+    let (_, frames) = went_on _ _ c.value-2.ensures c.in_ok-n.was in omega (arith, field_lt c.args.bytes.now 4 12)
 
-pub get-k-requires : goal.get-k-requires
-unfolding byte_len
-get-k-requires c = (search rules, omega arith)
+pub overflow_add-n-2 : goal.overflow_add-n-2
+overflow_add-n-2 c =
+    let (_, frames) = went_on _ _ c.value-2.ensures c.in_ok-n.was in omega (arith, field_lt c.args.bytes.now 4 12)
 
-pub returns-then-n-k : goal.returns-then-n-k
-unfolding frames_of stop_of
-returns-then-n-k c =
-    refuses _ c.closed-then-n-k.ensures
-    (stop_over _ c.if-bytes-lt-HEADER_BYTES.false (sym c.get-version.ensures ∙ c.if-version-ne-VERSION_VALUE.false) (omega (arith, c.if-n-k.true, c.get-k.ensures, c.get-n.ensures)))
+pub returns-in_err-k : goal.returns-in_err-k
+returns-in_err-k c =
+    refuses _
+    (at_version _ c.value.ensures c.in_ok-version.was ∙ test_goes _ c.test.ensures c.in_ok-test.was
+    ∙ at_stop _ c.value-2.ensures c.in_ok-n.was ∙ step_stops _ _ _ c.field.ensures c.in_err-k.was)
+    (search rules)
 
-pub get-spare-requires : goal.get-spare-requires
-unfolding byte_len
-get-spare-requires c = (search rules, omega arith)
-
-pub returns-then-spare-ne0 : goal.returns-then-spare-ne0
-unfolding frames_of stop_of
-returns-then-spare-ne0 c =
-    let stop-in : stop_of c.args.bytes.now ≤ frames_of c.args.bytes.now = omega
-    (arith, c.if-n-k.false, c.get-k.ensures, c.get-n.ensures) in
-    refuses _ c.closed-then-spare-ne0.ensures
-    (spare_set _ c.if-bytes-lt-HEADER_BYTES.false (sym c.get-version.ensures ∙ c.if-version-ne-VERSION_VALUE.false) stop-in (λ e. c.if-spare-ne0.true (c.get-spare.ensures ∙ e)))
+pub returns-in_err-field : goal.returns-in_err-field
+returns-in_err-field c =
+    refuses _
+    (at_version _ c.value.ensures c.in_ok-version.was ∙ test_goes _ c.test.ensures c.in_ok-test.was
+    ∙ at_stop _ c.value-2.ensures c.in_ok-n.was ∙ step_goes _ _ _ c.field.ensures c.in_ok-k.was
+    ∙ stopped _ _ c.field-2.ensures c.in_err-field.was)
+    (search rules)
 
 pub returns : goal.returns
 unfolding frames_of stop_of header_of
 returns c =
-    let stop-in : stop_of c.args.bytes.now ≤ frames_of c.args.bytes.now = omega
-    (arith, c.if-n-k.false, c.get-k.ensures, c.get-n.ensures) in
+    let (_, frames) = went_on _ _ c.value-2.ensures c.in_ok-n.was in
+    let (_, stop) = went_on _ _ c.field.ensures c.in_ok-k.was in
     read_said opened_told
-    (ap₂ Opened.Index (ap (λ (x : ℕ). x + 1) c.get-n.ensures) c.get-k.ensures
+    (ap₂ indexed (ap (λ (x : ℕ). x + 1) frames) stop
     ∙ opened_fine _ _
-    (header_fine _ c.if-bytes-lt-HEADER_BYTES.false (sym c.get-version.ensures ∙ c.if-version-ne-VERSION_VALUE.false) stop-in (sym c.get-spare.ensures ∙ c.if-spare-ne0.false)))
+    (at_version _ c.value.ensures c.in_ok-version.was ∙ test_goes _ c.test.ensures c.in_ok-test.was
+    ∙ at_stop _ c.value-2.ensures c.in_ok-n.was ∙ step_goes _ _ _ c.field.ensures c.in_ok-k.was
+    ∙ (went_on _ _ c.field-2.ensures c.in_ok-field.was).0))

@@ -1,5 +1,6 @@
 -- The writer: each refusal as its test gives it, and the file put into the part of the room that is lent to `fill`; what lies
 -- before and behind that part comes back as it was.
+use Rattle.std.specs.Prelude.{Ok}
 use Prim.Native.Nat.{ℕ, ◌+◌, ◌-◌, ◌≤◌}
 use mathlib.Core.Path.{◌≡◌, sym, ap, ap₂, subst, ◌∙◌}
 use mathlib.Core.List.{List, ◌++◌}
@@ -7,12 +8,11 @@ use native.Mathlib.Omega.{arith}
 use native.Mathlib.Nat.{add-sub_cancel_left, le_of_eq, le_trans}
 use lib.ListN.{length, take, drop, length-drop}
 use lib.Seq.{length-take-le}
-use Rattle.refusal.specs.Numbers.{OUT}
-use Rattle.refusal.proofs.Laws.{test_refused}
-use Rattle.file.specs.Writer.{out_fits, out_test, write_outcome}
-use Rattle.file.specs.declared.Written.{Written}
+use Rattle.std.proofs.Common.{rules}
+use Rattle.file.proofs.Steps.{held, test_stops, test_goes}
+use Rattle.file.specs.Writer.{out_test, write_outcome}
 use Rattle.file.proofs.Fit.{fit, file_bytes}
-use Rattle.file.proofs.Writing.{out_held, out_fits_lem, write_refused, write_out, write_filled, put_back}
+use Rattle.file.proofs.Writing.{out_held, out_fits_lem, write_refused, write_filled, put_back}
 use Rattle.file.proofs.write.Goals as goal
 
 -- the stretch that is lent has their length
@@ -24,51 +24,47 @@ stretch out start size h l =
 
 -- and holds them when it comes back
 back : (out last file : List ℕ) (start size : ℕ) → last ≡ file → size ≡ length file →
-    write_outcome (Written.Bytes size) (take start out ++ (last ++ drop (start + size - start) (drop start out)))
-    ≡ write_outcome (Written.Bytes (length file)) (take start out ++ (file ++ drop (start + length file) out))
+    write_outcome (Ok size) (take start out ++ (last ++ drop (start + size - start) (drop start out)))
+    ≡ write_outcome (Ok (length file)) (take start out ++ (file ++ drop (start + length file) out))
 back out last file start size e d =
-    ap₂ (λ (m : ℕ) (l : List ℕ). write_outcome (Written.Bytes m)
+    ap₂ (λ (m : ℕ) (l : List ℕ). write_outcome (Ok m)
     (take start out ++ (l ++ drop (start + size - start) (drop start out)))) d e
-    ∙ ap (write_outcome (Written.Bytes (length file))) (put_back out file start (start + size - start)
+    ∙ ap (write_outcome (Ok (length file))) (put_back out file start (start + size - start)
     (add-sub_cancel_left start size ∙ d))
 
-pub returns-in-Refused : goal.returns-in-Refused
-returns-in-Refused c = sym (write_refused _ _ _ _ _ _ _ _ (sym c.tests-tests.ensures ∙ c.in-Refused.is))
+pub returns-in_err-tests : goal.returns-in_err-tests
+returns-in_err-tests c = write_refused _ _ _ _ _ _ _ _ (test_stops _ c.tests.ensures c.in_err-tests.was) (search rules)
 
 pub size-size-requires : goal.size-size-requires
 size-size-requires c =
-    let f = (fit _ _ _ _ _ _ (sym c.tests-tests.ensures ∙ c.in_default.is)) in (f.rooms.sizes.frames, omega (arith, f.rooms.each, f.rooms.sizes.frames))
+    let f = fit _ _ _ _ _ _ (sym c.tests.ensures ∙ c.in_ok-tests.was) in (f.rooms.sizes.frames, omega (arith, f.rooms.each, f.rooms.sizes.frames))
 
-pub returns-then-not-fits : goal.returns-then-not-fits
+pub returns-in_err-test : goal.returns-in_err-test
 unfolding out_test
-returns-then-not-fits c =
-    let fine = sym c.tests-tests.ensures ∙ c.in_default.is in
-    sym (write_out _ _ _ _ _ _ _ _ fine (test_refused OUT 0
-    (ap (out_fits _ _) (sym (c.size-size.ensures ∙ sym (file_bytes _ _ _ _ _ _ (fit _ _ _ _ _ _ fine)))) ∙ sym c.out_fits-fits.ensures ∙ c.if-not-fits.true)))
+returns-in_err-test c =
+    let passed = sym c.tests.ensures ∙ c.in_ok-tests.was in
+    let bytes = c.size-size.ensures ∙ sym (file_bytes _ _ _ _ _ _ (fit _ _ _ _ _ _ passed)) in
+    write_refused _ _ _ _ _ _ _ _
+    (test_goes _ c.tests.ensures c.in_ok-tests.was ∙ sym (rw (c.out_fits.ensures, bytes) at c.test.ensures) ∙ c.in_err-test.was) (search rules)
 
 pub overflow_add-end : goal.overflow_add-end
 overflow_add-end c =
-    omega (arith, (out_held _ _ _ (sym c.out_fits-fits.ensures ∙ c.if-not-fits.false)))
-
-pub slice_bounds-fill-start : goal.slice_bounds-fill-start
-slice_bounds-fill-start c =
-    omega (arith, (out_held _ _ _ (sym c.out_fits-fits.ensures ∙ c.if-not-fits.false)))
+    omega (arith, out_held _ _ _ (held _ _ _ (rw c.out_fits.ensures at c.test.ensures) c.in_ok-test.was))
 
 pub slice_bounds-fill-end : goal.slice_bounds-fill-end
 slice_bounds-fill-end c =
-    omega (arith, (out_held _ _ _ (sym c.out_fits-fits.ensures ∙ c.if-not-fits.false)))
+    omega (arith, out_held _ _ _ (held _ _ _ (rw c.out_fits.ensures at c.test.ensures) c.in_ok-test.was))
 
 pub fill-requires : goal.fill-requires
 fill-requires c =
-    let passed = fit _ _ _ _ _ _ (sym c.tests-tests.ensures ∙ c.in_default.is) in
-    let (h, l) = (out_held _ _ _ (sym c.out_fits-fits.ensures ∙ c.if-not-fits.false)) in
+    let passed = fit _ _ _ _ _ _ (sym c.tests.ensures ∙ c.in_ok-tests.was) in
+    let (h, l) = out_held _ _ _ (held _ _ _ (rw c.out_fits.ensures at c.test.ensures) c.in_ok-test.was) in
     (passed, stretch _ _ _ h l ∙ (c.size-size.ensures ∙ sym (file_bytes _ _ _ _ _ _ passed)))
 
 pub returns : goal.returns
 returns c =
-    let fine = sym c.tests-tests.ensures ∙ c.in_default.is in
-    let bytes = c.size-size.ensures
-    ∙ sym (file_bytes _ _ _ _ _ _ (fit _ _ _ _ _ _ fine)) in
-    let (h, l) = (out_held _ _ _ (sym c.out_fits-fits.ensures ∙ c.if-not-fits.false)) in
+    let passed = sym c.tests.ensures ∙ c.in_ok-tests.was in
+    let bytes = c.size-size.ensures ∙ sym (file_bytes _ _ _ _ _ _ (fit _ _ _ _ _ _ passed)) in
+    let (h, l) = out_held _ _ _ (held _ _ _ (rw c.out_fits.ensures at c.test.ensures) c.in_ok-test.was) in
     back c.args.out.now _ _ c.args.start c.size-size.result c.fill.ensures bytes
-    ∙ sym (write_filled _ _ _ _ _ _ _ _ fine (out_fits_lem _ _ _ h (le_trans (le_of_eq (sym bytes)) l)))
+    ∙ sym (write_filled _ _ _ _ _ _ _ _ passed (out_fits_lem _ _ _ h (le_trans (le_of_eq (sym bytes)) l)))

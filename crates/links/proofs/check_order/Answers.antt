@@ -1,22 +1,33 @@
--- `links::check_order` meets its contract: at each return the tests that led there say which test of `check_order` decides.
+-- `links::check_order` meets its contract: the first of tests 1, 2 and 5 that fails, or none.
 use mathlib.Core.Path.{sym, ◌∙◌}
+use Rattle.std.proofs.Common.{rules}
+use borrow.Author.Tests.{eqb-true}
 use Rattle.basics.proofs.Laws.{read_off}
 use Rattle.refusal.specs.Told.{verdict_told}
+use Rattle.refusal.proofs.Laws.{test_held, then_stops, then_goes}
 use Rattle.refusal.proofs.SizeLaws.{frames_held}
-use Rattle.links.proofs.Order.{order_alone, order_unfit, order_length}
+use Rattle.links.specs.Order.{check_order}
 use Rattle.links.proofs.check_order.Goals as goal
 
+pub returns-in_err-test : goal.returns-in_err-test
+unfolding check_order
+returns-in_err-test c = read_off verdict_told
+    (then_stops _ (rw c.frames_fit.ensures at c.test.ensures) c.in_err-test.was (search rules))
+
+pub returns-in_err-test-2 : goal.returns-in_err-test-2
+unfolding check_order
+returns-in_err-test-2 c = read_off verdict_told
+    (then_goes (rw c.frames_fit.ensures at c.test.ensures) c.in_ok-test.was
+    (then_stops _ c.test-2.ensures c.in_err-test-2.was (search rules)))
+
 pub each_once-requires : goal.each_once-requires
-each_once-requires c = ((frames_held _ (sym c.frames_fit.ensures ∙ c.if-frames_fit.true)).1, c.if-order-n.true)
-
-pub returns-then-order-n : goal.returns-then-order-n
-returns-then-order-n c = let (one, most) = frames_held _ (sym c.frames_fit.ensures ∙ c.if-frames_fit.true) in
-    read_off verdict_told (c.each_once.ensures ∙ sym (order_alone _ _ one most c.if-order-n.true))
-
-pub returns-then-frames_fit : goal.returns-then-frames_fit
-returns-then-frames_fit c = read_off verdict_told
-    (c.refused.ensures ∙ sym (order_length _ _ (sym c.frames_fit.ensures ∙ c.if-frames_fit.true) c.if-order-n.false))
+each_once-requires c = (
+  (frames_held _ (test_held _ _ _ (sym (rw c.frames_fit.ensures at c.test.ensures) ∙ c.in_ok-test.was))).1,
+  eqb-true _ _ (test_held _ _ _ (sym c.test-2.ensures ∙ c.in_ok-test-2.was)),
+)
 
 pub returns : goal.returns
+unfolding check_order
 returns c = read_off verdict_told
-    (c.refused-2.ensures ∙ sym (order_unfit _ _ (sym c.frames_fit.ensures ∙ c.if-frames_fit.false)))
+    (then_goes (rw c.frames_fit.ensures at c.test.ensures) c.in_ok-test.was
+    (then_goes c.test-2.ensures c.in_ok-test-2.was c.each_once.ensures))

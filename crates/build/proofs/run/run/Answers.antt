@@ -1,71 +1,51 @@
 -- The goals that the search leaves.
-use mathlib.Core.Path.{sym, ◌∙◌}
+use Prim.Native.Nat.{ℕ, ◌<◌}
+use mathlib.Core.Path.{◌≡◌, refl, sym, ap, ◌∙◌}
+use Rattle.refusal.specs.Tests.{Verdict}
+use Rattle.walk.specs.Walk.{Walked}
 use native.Mathlib.Omega.{arith}
-use Rattle.build.proofs.RunState.{run_begins, run_ends, run_lengths, run_ready, run_next, run_stops}
+use mathlib.Core.List.{List}
+use lib.ListN.{length, take}
+use Rattle.std.proofs.lemmas.List.{get_or-take, length-take-le}
+use Rattle.std.specs.Prelude.{Err}
+use Rattle.build.specs.Inner.{Tested, walk_verdict}
+use Rattle.walk.proofs.BfsLists.{list_lies}
+use Rattle.build.proofs.RunState.{run_begins, run_ends, run_ready, run_next, run_stops}
 use Rattle.build.proofs.run.run.Goals as goal
+
+-- the first k hubs are k
+first : (n w k : ℕ) (S L O : List ℕ) → Tested n w k S L O → length (take k O) ≡ k
+first n w k S L O given = length-take-le k O (omega (arith, given.order.long, given.stop))
+
+pub slice_bounds-hub-items-end : goal.slice_bounds-hub-items-end
+slice_bounds-hub-items-end c = sym (first _ _ _ _ _ _ c.requires.given)
 
 pub loop-rank-init : goal.loop-rank-init
 loop-rank-init c = run_begins c.requires
 
-pub offset_bounds-order-rank : goal.offset_bounds-order-rank
-offset_bounds-order-rank c = omega (arith, c.requires.given.order.long, c.requires.given.stop)
+pub invariant_of-lists : goal.invariant_of-lists
+invariant_of-lists c = record { lie = λ v h. list_lies c.requires.given.block (omega (arith, c.requires.given.block.long)) }
 
-pub bounds-order-rank : goal.bounds-order-rank
-bounds-order-rank c = omega (arith, c.requires.given.order.long, c.requires.given.stop)
+pub walk-made-requires : goal.walk-made-requires
+walk-made-requires c =
+    let below : c.loop-rank.rank < c.args.k = omega (arith, c.loop-rank-test.true, first _ _ _ _ _ _ c.requires.given) in
+    rw (get_or-take c.args.k c.args.order.now c.loop-rank.rank 0 below) (run_ready c.requires c.loop-rank.invariant below)
 
-pub overflow_cast-hub : goal.overflow_cast-hub
-overflow_cast-hub c = omega (arith, c.type_inv.order c.loop-rank.rank)
-
-pub walk-walked-requires : goal.walk-walked-requires
-walk-walked-requires c = run_ready c.requires c.loop-rank.invariant c.loop-rank-test.true
-
-pub shape_of-labels-in_default : goal.shape_of-labels-in_default
-shape_of-labels-in_default c =
-    c.walk-walked.auto.labels ∙ (run_lengths c.requires c.loop-rank.invariant).of_labels
-
-pub shape_of-counts-in_default : goal.shape_of-counts-in_default
-shape_of-counts-in_default c =
-    c.walk-walked.auto.counts ∙ (run_lengths c.requires c.loop-rank.invariant).of_counts
-
-pub shape_of-met-in_default : goal.shape_of-met-in_default
-shape_of-met-in_default c =
-    c.walk-walked.auto.met ∙ (run_lengths c.requires c.loop-rank.invariant).of_met
-
-pub shape_of-queue-in_default : goal.shape_of-queue-in_default
-shape_of-queue-in_default c =
-    c.walk-walked.auto.queue ∙ (run_lengths c.requires c.loop-rank.invariant).of_queue
-
-pub shape_of-noted-in_default : goal.shape_of-noted-in_default
-shape_of-noted-in_default c =
-    c.walk-walked.auto.noted ∙ (run_lengths c.requires c.loop-rank.invariant).of_noted
-
-pub returns-in_default : goal.returns-in_default
-returns-in_default c = run_stops c.requires c.loop-rank.invariant c.loop-rank-test.true c.walk-walked.ensures.walked c.walk-walked.ensures.notes
-    c.walk_verdict-verdict.ensures c.in_default.is
+pub returns-in-Err : goal.returns-in-Err
+unfolding walk_verdict
+returns-in-Err c =
+    let below : c.loop-rank.rank < c.args.k = omega (arith, c.loop-rank-test.true, first _ _ _ _ _ _ c.requires.given) in
+    let hub = get_or-take c.args.k c.args.order.now c.loop-rank.rank 0 below in
+    run_stops c.requires c.loop-rank.invariant below (rw hub at c.walk-made.ensures.walked) c.walk-made.ensures.notes
+    (ap {B = Verdict} (λ r. Err r) c.refusal_of.ensures ∙ sym (ap (λ (z : Walked). walk_verdict z c.loop-rank.rank) c.in-Err.is)) refl
 
 pub loop-rank-preserved : goal.loop-rank-preserved
-loop-rank-preserved c = run_next c.requires c.loop-rank.invariant c.loop-rank-test.true c.walk-walked.ensures.walked c.walk-walked.ensures.notes
-    (sym c.walk_verdict-verdict.ensures ∙ c.in-Fine.is)
-
-pub shape_of-labels : goal.shape_of-labels
-shape_of-labels c =
-    (run_lengths c.requires c.loop-rank.invariant).of_labels
-
-pub shape_of-counts : goal.shape_of-counts
-shape_of-counts c =
-    (run_lengths c.requires c.loop-rank.invariant).of_counts
-
-pub shape_of-met : goal.shape_of-met
-shape_of-met c =
-    (run_lengths c.requires c.loop-rank.invariant).of_met
-
-pub shape_of-queue : goal.shape_of-queue
-shape_of-queue c =
-    (run_lengths c.requires c.loop-rank.invariant).of_queue
-
-pub shape_of-noted : goal.shape_of-noted
-shape_of-noted c =
-    (run_lengths c.requires c.loop-rank.invariant).of_noted
+unfolding walk_verdict
+loop-rank-preserved c =
+    let below : c.loop-rank.rank < c.args.k = omega (arith, c.loop-rank-test.true, first _ _ _ _ _ _ c.requires.given) in
+    let hub = get_or-take c.args.k c.args.order.now c.loop-rank.rank 0 below in
+    run_next c.requires c.loop-rank.invariant below (rw hub at c.walk-made.ensures.walked) c.walk-made.ensures.notes
+    (ap (λ (z : Walked). walk_verdict z c.loop-rank.rank) c.in_default.is)
 
 pub returns : goal.returns
-returns c = run_ends c.loop-rank-test.false c.loop-rank.invariant
+returns c = run_ends (omega (arith, c.loop-rank-test.false, first _ _ _ _ _ _ c.requires.given)) c.loop-rank.invariant

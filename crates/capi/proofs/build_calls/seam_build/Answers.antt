@@ -1,13 +1,10 @@
--- Each arm gives what the definition gives for that answer, and the build promises the answer with the rooms.
-use mathlib.Core.Path.{ap}
-use Rattle.build.specs.Build.{built_told}
+-- What is told of the answer, with the answer and the rooms that the build promises.
+use mathlib.Core.Path.{ap, ◌∙◌}
 use Rattle.capi.specs.Outs.{build_outs}
+use Rattle.capi.proofs.OutLaws.{with_rooms}
+use Rattle.capi.proofs.TellLaws.{built_tells}
 use Rattle.capi.proofs.build_calls.seam_build.Goals as goal
 
-pub returns-in-Entries : goal.returns-in-Entries
-unfolding build_outs built_told
-returns-in-Entries c = ap build_outs (rw c.in-Entries.is at c.build.ensures)
-
-pub returns-in-Refused : goal.returns-in-Refused
-unfolding build_outs built_told
-returns-in-Refused c = ap build_outs (rw c.in-Refused.is at c.build.ensures)
+pub returns : goal.returns
+unfolding build_outs
+returns c = with_rooms _ (built_tells _ c.unwrap_or.ensures c.told.ensures) ∙ ap build_outs c.build-built.ensures

@@ -1,13 +1,10 @@
--- Each arm gives what the definition gives for that answer, and the writer promises the answer's numbers with the room.
-use mathlib.Core.Path.{ap}
-use Rattle.file.specs.Writer.{written_told}
+-- What is told of the answer, with the answer and the room that the writer promises.
+use mathlib.Core.Path.{ap, ◌∙◌}
 use Rattle.capi.specs.Outs.{write_outs}
+use Rattle.capi.proofs.OutLaws.{with_rooms}
+use Rattle.capi.proofs.TellLaws.{written_tells}
 use Rattle.capi.proofs.file_calls.seam_write.Goals as goal
 
-pub returns-in-Bytes : goal.returns-in-Bytes
-unfolding write_outs written_told
-returns-in-Bytes c = ap write_outs (rw c.in-Bytes.is at c.write.ensures)
-
-pub returns-in-Refused : goal.returns-in-Refused
-unfolding write_outs written_told
-returns-in-Refused c = ap write_outs (rw c.in-Refused.is at c.write.ensures)
+pub returns : goal.returns
+unfolding write_outs
+returns c = with_rooms _ (written_tells _ c.unwrap_or.ensures c.told.ensures) ∙ ap write_outs c.write-written.ensures

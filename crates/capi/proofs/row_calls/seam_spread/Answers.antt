@@ -1,11 +1,7 @@
--- Each arm gives the numbers of that answer, and the spread question promises the answer.
-use Rattle.rows.specs.Spread.{spread_told}
+-- What is told of the answer, with the numbers that the spread question promises.
+use mathlib.Core.Path.{◌∙◌}
+use Rattle.capi.proofs.TellLaws.{spread_tells}
 use Rattle.capi.proofs.row_calls.seam_spread.Goals as goal
 
-pub returns-in-Spread : goal.returns-in-Spread
-unfolding spread_told
-returns-in-Spread c = rw c.in-Spread.is at c.spread.ensures.numbers
-
-pub returns-in-Refused : goal.returns-in-Refused
-unfolding spread_told
-returns-in-Refused c = rw c.in-Refused.is at c.spread.ensures.numbers
+pub returns : goal.returns
+returns c = spread_tells _ c.unwrap_or.ensures c.told.ensures ∙ c.spread-answer.ensures.numbers

@@ -1,15 +1,8 @@
--- Each arm gives the numbers of that answer, and the question promises the answer.
-use Rattle.rows.specs.Within.{within_told}
+-- What is told of the answer, with the numbers that the question promises.
+use mathlib.Core.Path.{ap, ◌∙◌}
+use mir.Val.{bool_byte}
+use Rattle.capi.proofs.TellLaws.{within_tells}
 use Rattle.capi.proofs.row_calls.seam_within.Goals as goal
 
-pub returns-in-Yes : goal.returns-in-Yes
-unfolding within_told
-returns-in-Yes c = rw c.in-Yes.is at c.within.ensures.numbers
-
-pub returns-in-No : goal.returns-in-No
-unfolding within_told
-returns-in-No c = rw c.in-No.is at c.within.ensures.numbers
-
-pub returns-in-Refused : goal.returns-in-Refused
-unfolding within_told
-returns-in-Refused c = rw c.in-Refused.is at c.within.ensures.numbers
+pub returns : goal.returns
+returns c = within_tells _ (c.from.ensures ∙ ap bool_byte c.unwrap_or.ensures) c.told.ensures ∙ c.within-answer.ensures.numbers

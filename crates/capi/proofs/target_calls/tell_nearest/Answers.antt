@@ -1,16 +1,14 @@
--- Each arm gives what the definition gives for that answer.
-use mathlib.Core.Path.{sym, ap, ◌∙◌}
+-- What is told of the answer, with the answer that the question promises.
+use mathlib.Core.Path.{ap, ◌∙◌}
+use mir.Val.{bool_byte}
+use Rattle.std.specs.Prelude.{is_some}
+use Rattle.std.specs.Option.{unwrap_or}
 use Rattle.targets.specs.Nearest.{nearest_told}
+use Rattle.capi.proofs.TellLaws.{nearest_tells}
 use Rattle.capi.proofs.target_calls.tell_nearest.Goals as goal
 
-pub returns-in-Record : goal.returns-in-Record
-unfolding nearest_told
-returns-in-Record c = ap nearest_told (sym c.in-Record.is ∙ c.nearest_listed.ensures)
-
-pub returns-in-None : goal.returns-in-None
-unfolding nearest_told
-returns-in-None c = ap nearest_told (sym c.in-None.is ∙ c.nearest_listed.ensures)
-
-pub returns-in-Refused : goal.returns-in-Refused
-unfolding nearest_told
-returns-in-Refused c = ap nearest_told (sym c.in-Refused.is ∙ c.nearest_listed.ensures)
+pub returns : goal.returns
+returns c =
+    nearest_tells _ (c.from.ensures ∙ ap bool_byte (c.is_some.ensures ∙ ap is_some c.unwrap_or-record.ensures))
+    (c.unwrap_or.ensures ∙ ap (λ s. unwrap_or s 0) c.unwrap_or-record.ensures) c.told.ensures
+    ∙ ap nearest_told c.nearest_listed-answer.ensures

@@ -1,29 +1,19 @@
--- `field` goes by the cases of its test: the bytes end before the field does, its value is `bound` or more, or below.
-use Prim.Native.Nat.{ℕ, ◌≤◌, ◌<◌}
-use mathlib.Core.Path.{subst, ◌∙◌}
-use borrow.Author.Tests.{lt-ltb, le-ltb}
-use Rattle.fields.specs.Bits.{byte_len}
-use Rattle.file.proofs.Steps.{short_fine, short_refused, field_fine, field_refused, field_short, step_fine, step_refused}
+-- `field` makes the tests of its field in their order: that its bytes are there, that it is below the bound.
+use mathlib.Core.Path.{sym, ◌∙◌}
+use Rattle.std.proofs.Common.{rules}
+use Rattle.file.specs.Reader.{field_test}
+use Rattle.file.proofs.Steps.{step_refuses, step_fine, step_stops, field_left, went_on}
 use Rattle.file.proofs.step.field.Goals as goal
 
-pub returns-then-bytes-end : goal.returns-then-bytes-end
-unfolding byte_len
-returns-then-bytes-end c = c.stop.ensures ∙ step_refused _ (field_short _ _ _ _ (short_refused _ _ _ c.if-bytes-end.true))
+pub returns-in_err-found : goal.returns-in_err-found
+unfolding field_test
+returns-in_err-found c = step_refuses _ (step_stops _ _ _ c.value.ensures c.in_err-found.was) (search rules)
 
-pub get-value-requires : goal.get-value-requires
-unfolding byte_len
-get-value-requires c = (c.requires, c.if-bytes-end.false)
-
-pub returns-then-bound-value : goal.returns-then-bound-value
-unfolding byte_len
-returns-then-bound-value c = c.stop-then-bound-value.ensures
-    ∙ step_refused _
-    (field_refused _ c.args.p _ (short_fine _ _ _ c.if-bytes-end.false)
-    (le-ltb _ c.args.bound (subst (λ (x : ℕ). c.args.bound ≤ x) c.get-value.ensures c.if-bound-value.true)))
+pub returns-in_err-test : goal.returns-in_err-test
+returns-in_err-test c =
+    step_refuses _ (field_left _ _ _ _ c.value.ensures c.in_ok-found.was ∙ sym c.test.ensures ∙ c.in_err-test.was) (search rules)
 
 pub returns : goal.returns
-unfolding byte_len
-returns c = step_fine
-    (field_fine _ c.args.p _ (short_fine _ _ _ c.if-bytes-end.false)
-    (lt-ltb _ c.args.bound (subst (λ (x : ℕ). x < c.args.bound) c.get-value.ensures c.if-bound-value.false)))
-    c.get-value.ensures
+returns c =
+    step_fine (field_left _ _ _ _ c.value.ensures c.in_ok-found.was ∙ sym c.test.ensures ∙ c.in_ok-test.was)
+    (went_on _ _ c.value.ensures c.in_ok-found.was).1

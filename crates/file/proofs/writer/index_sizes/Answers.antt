@@ -3,10 +3,10 @@ use mathlib.Core.Path.{sym, ◌∙◌}
 use Rattle.file.specs.Writer.{index_sizes}
 use Rattle.file.proofs.writer.index_sizes.Goals as goal
 
-pub returns-then-not-sizes : goal.returns-then-not-sizes
+pub returns-then-sizes_fit : goal.returns-then-sizes_fit
 unfolding index_sizes
-returns-then-not-sizes c = rw (sym c.sizes_fit-sizes.ensures ∙ c.if-not-sizes.true)
+returns-then-sizes_fit c = rw (sym c.sizes_fit.ensures ∙ c.if-sizes_fit.true)
 
-pub returns : goal.returns
+pub returns-else-sizes_fit : goal.returns-else-sizes_fit
 unfolding index_sizes
-returns c = rw (sym c.sizes_fit-sizes.ensures ∙ c.if-not-sizes.false)
+returns-else-sizes_fit c = c.if-sizes_fit.false ∙ rw (sym c.sizes_fit.ensures ∙ c.if-sizes_fit.false)

@@ -3,10 +3,10 @@ use borrow.Author.Tests.{le-leb, lt-leb}
 use Rattle.file.specs.Writer.{out_fits}
 use Rattle.file.proofs.writer.out_fits.Goals as goal
 
-pub returns-then-room-start : goal.returns-then-room-start
+pub returns-then-start-room : goal.returns-then-start-room
 unfolding out_fits
-returns-then-room-start c = rw (lt-leb c.args.start c.args.room c.if-room-start.true)
+returns-then-start-room c = rw (le-leb c.args.start c.args.room c.if-start-room.true)
 
-pub returns : goal.returns
+pub returns-else-start-room : goal.returns-else-start-room
 unfolding out_fits
-returns c = rw (le-leb c.args.start c.args.room c.if-room-start.false)
+returns-else-start-room c = rw (lt-leb c.args.start c.args.room c.if-start-room.false)

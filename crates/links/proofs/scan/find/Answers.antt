@@ -1,5 +1,5 @@
 -- The goals that the search leaves.
-use mathlib.Core.Path.{refl, sym, ◌∙◌}
+use mathlib.Core.Path.{◌≡◌, refl, sym, ◌∙◌}
 use native.Mathlib.Omega.{arith}
 use borrow.Author.Tests.{eq-eqb, ne_eqb}
 use Rattle.basics.proofs.Laws.{first_here, first_step, first_over}
@@ -18,4 +18,5 @@ pub loop-at-preserved : goal.loop-at-preserved
 loop-at-preserved c = (omega arith, first_step _ _ _ c.loop-at-test.true (ne_eqb _ _ c.if-u-v.false) ∙ c.loop-at.invariant.1)
 
 pub returns : goal.returns
-returns c = sym (first_over _ _ _ c.loop-at-test.false) ∙ c.loop-at.invariant.1
+returns c = let last : c.loop-at.at ≡ c.args.end = omega (arith, c.loop-at.invariant.0) in
+    sym last ∙ sym (first_over _ _ _ c.loop-at-test.false) ∙ c.loop-at.invariant.1

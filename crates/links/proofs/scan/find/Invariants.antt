@@ -11,6 +11,3 @@ use Rattle.links.proofs.scan.find.Given as goal
 abbrev pub invariant-loop-at : goal.invariant-loop-at
 invariant-loop-at l = let is : ℕ → Bool = λ i. eqb (get_or l.places i 0) l.v in
     (l.at ≤ l.end) × (first is l.at (l.end - l.at) ≡ first is l.from (l.end - l.from))
-
-abbrev pub decreases-loop-at : goal.decreases-loop-at
-decreases-loop-at l = l.end - l.at

@@ -8,6 +8,3 @@ use Rattle.links.proofs.scan.starts_right.Given as goal
 
 abbrev pub invariant-loop-v : goal.invariant-loop-v
 invariant-loop-v l = (l.v ≤ l.n) × (some (falls l.starts) l.v (l.n - l.v) ≡ some (falls l.starts) 0 l.n)
-
-abbrev pub decreases-loop-v : goal.decreases-loop-v
-decreases-loop-v l = l.n - l.v

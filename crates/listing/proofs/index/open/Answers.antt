@@ -3,6 +3,7 @@ use native.Mathlib.Omega.{arith}
 use mathlib.Core.Path.{sym, ◌∙◌}
 use lib.Seq.{length-take-le}
 use borrow.Author.Rules.{rules}
+use Rattle.refusal.specs.Numbers.{number_of}
 use Rattle.listing.proofs.TextLaws.{put_as}
 use Rattle.listing.proofs.IndexLaws.{refused_text_lem, header_refused, over_frames, within_frames, cut_rooms, cut_text}
 use Rattle.listing.proofs.index.open.Goals as goal
@@ -19,9 +20,10 @@ returns-in_default c = record {
 }
 
 pub returns-then-n-gt-FRAMES : goal.returns-then-n-gt-FRAMES
+unfolding number_of
 returns-then-n-gt-FRAMES c = record {
   put = put_as
-      (over_frames _ c.header-opened.ensures.given c.in-Index.is c.if-n-gt-FRAMES.true) c.refused-then-n-gt-FRAMES.ensures.put;
+      (over_frames _ c.header-opened.ensures.given c.in-Ok.is c.if-n-gt-FRAMES.true) c.refused-then-n-gt-FRAMES.ensures.put;
   near = omega (arith, c.refused-then-n-gt-FRAMES.ensures.near);
 }
 
@@ -42,7 +44,7 @@ pub returns : goal.returns
 returns c = let (p, l, n) = c.requires.order_len in record {
   put = put_as
       (cut_text _ _ _ _ c.if-n-gt-FRAMES.false p l n _
-      ∙ within_frames _ c.header-opened.ensures.given c.in-Index.is c.if-n-gt-FRAMES.false) c.read.ensures.put;
+      ∙ within_frames _ c.header-opened.ensures.given c.in-Ok.is c.if-n-gt-FRAMES.false) c.read.ensures.put;
   near =
       c.read.ensures.near;
 }

@@ -23,7 +23,7 @@ pub show-requires : goal.show-requires
 show-requires c = let cut : Cut c.read-opened.new.order c.read-opened.new.labels c.read-opened.new.counts = search rules in
     record {
       cut = cut;
-      counts_value = rows_found _ _ _ _ c.read-opened.ensures.given c.in-Index.is;
+      counts_value = rows_found _ _ _ _ c.read-opened.ensures.given c.in-Ok.is;
       in_bounds =
           c.requires.in_bounds;
     }
@@ -31,6 +31,6 @@ show-requires c = let cut : Cut c.read-opened.new.order c.read-opened.new.labels
 pub returns : goal.returns
 unfolding opened_text
 returns c = record {
-  put = put_as (read_found _ _ _ _ c.read-opened.ensures.given c.in-Index.is) c.show.ensures.put;
+  put = put_as (read_found _ _ _ _ c.read-opened.ensures.given c.in-Ok.is) c.show.ensures.put;
   near = c.show.ensures.near;
 }

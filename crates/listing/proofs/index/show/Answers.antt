@@ -6,9 +6,6 @@ use Rattle.listing.proofs.TextLaws.{put_more}
 use Rattle.listing.proofs.IndexLaws.{shown_by, spread_said}
 use Rattle.listing.proofs.index.show.Goals as goal
 
-pub spread-answer-requires : goal.spread-answer-requires
-spread-answer-requires c = tt
-
 pub lines-requires : goal.lines-requires
 lines-requires c = record {
   shown = shown_by _ c.requires.counts_value c.requires.cut;
@@ -18,7 +15,7 @@ lines-requires c = record {
 
 pub returns : goal.returns
 unfolding index_text
-returns c = let spread = spread_said _ _ _ c.requires.counts_value c.spread-answer.ensures.answer c.spread_of-spread.ensures in record {
+returns c = let spread = spread_said _ _ _ c.requires.counts_value c.spread.ensures.answer c.unwrap_or-spread.ensures in record {
   put =
       rw (← spread, ← total_sum c.args.counts.now (omega (arith, c.requires.cut.frames)), ← c.total-entries.ensures.0)
       (put_more c.head-at.ensures.put c.lines.ensures.put);

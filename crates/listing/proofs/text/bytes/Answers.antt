@@ -1,25 +1,13 @@
--- The goals that the search leaves.
-use native.Mathlib.Nat.{add-zero}
+-- The part of the room that takes the text is as long as the text.
+use Prim.Native.Nat.{◌+◌, ◌-◌}
+use mathlib.Core.Path.{◌≡◌}
 use native.Mathlib.Omega.{arith}
-use lib.Seq.{take_all}
-use Rattle.listing.proofs.TextLaws.{put_none, put_as, put_next}
+use lib.ListN.{length}
+use Rattle.std.proofs.Common.{rules}
+use Rattle.listing.proofs.TextLaws.{put_part}
 use Rattle.listing.proofs.text.bytes.Goals as goal
 
-pub loop-i-init : goal.loop-i-init
-loop-i-init c = (omega arith, rw add-zero (put_none c.args.out.now c.args.at))
-
-pub bounds-out-at : goal.bounds-out-at
-bounds-out-at c = omega (arith, c.loop-i.invariant.1.long)
-
-pub loop-i-preserved : goal.loop-i-preserved
-loop-i-preserved c = (
-  omega arith,
-  put_next c.args.text.now c.loop-i.i (omega arith)
-      (omega (arith, c.loop-i.invariant.1.long)) c.loop-i.invariant.1,
-)
-
-pub shape_of-out : goal.shape_of-out
-shape_of-out c = c.loop-i.invariant.1.long
-
 pub returns : goal.returns
-returns c = put_as (take_all c.loop-i.i c.args.text.now (omega arith)) c.loop-i.invariant.1
+returns c =
+    let same : c.copy_from_slice.new.self ≡ c.args.text.now = search rules in
+    rw same (put_part c.args.out.now c.args.text.now c.args.at (c.args.at + length c.args.text.now - c.args.at) (omega arith) (omega arith))

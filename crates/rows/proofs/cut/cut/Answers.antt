@@ -1,7 +1,6 @@
 -- What is cut from the row's start is so many of its entries.
-use mathlib.Core.Path.{refl}
 use Rattle.rows.proofs.Laws.{cut_part}
 use Rattle.rows.proofs.cut.cut.Goals as goal
 
-pub returns : goal.returns
-returns c = record { entries = cut_part _ _ _ _; lies = refl }
+pub returns-clause-entries : goal.returns-clause-entries
+returns-clause-entries c = cut_part _ _ _ _

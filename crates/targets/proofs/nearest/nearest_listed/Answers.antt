@@ -2,13 +2,14 @@
 use mathlib.Core.Path.{◌≡◌, sym, ap, ◌∙◌}
 use native.Mathlib.Omega.{arith}
 use lib.ListN.{length}
-use Rattle.targets.specs.Nearest.{nearest_of}
+use Rattle.std.specs.Prelude.{Err}
+use Rattle.targets.specs.Nearest.{nearest_of, NearestTarget}
 use Rattle.targets.proofs.Listed.{nearest_many}
 use Rattle.targets.proofs.TestLaws.{frames_cut, length_in}
 use Rattle.targets.proofs.nearest.nearest_listed.Goals as goal
 
 pub returns-then-count-gt-MOST_TARGETS : goal.returns-then-count-gt-MOST_TARGETS
-returns-then-count-gt-MOST_TARGETS c = sym (nearest_many _ _ _ _ _ _
+returns-then-count-gt-MOST_TARGETS c = ap {B = NearestTarget} (λ r. Err r) c.at.ensures ∙ sym (nearest_many _ _ _ _ _ _
     (omega (arith, length_in c.args.listed, c.if-count-gt-MOST_TARGETS.true)))
 
 pub slice_bounds-nearest_of-end : goal.slice_bounds-nearest_of-end

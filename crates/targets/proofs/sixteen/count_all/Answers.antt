@@ -7,10 +7,7 @@ use Rattle.targets.proofs.SixteenLaws.{none_reached, raise_in, reached_turn, ran
 use Rattle.targets.proofs.sixteen.count_all.Goals as goal
 
 pub loop-v-init : goal.loop-v-init
-loop-v-init c = (omega arith, c.requires.1 ∙ none_reached c.args.w c.args.labels.now c.args.counts.now c.args.noted.now)
-
-pub overflow_cast-counts : goal.overflow_cast-counts
-overflow_cast-counts c = omega (arith, c.type_inv.counts c.loop-v.v)
+loop-v-init c = c.requires.1 ∙ none_reached c.args.w c.args.labels.now c.args.counts.now c.args.noted.now
 
 pub reach-joins-requires : goal.reach-joins-requires
 reach-joins-requires c = (
@@ -21,22 +18,20 @@ reach-joins-requires c = (
 
 pub raise-requires : goal.raise-requires
 raise-requires c = raise_in c.args.w c.args.labels.now c.args.counts.now c.args.noted.now c.loop-v.v
-    (omega (arith, c.requires.0.few, c.loop-v.invariant.0)) c.loop-v.invariant.1
+    (omega (arith, c.requires.0.few)) c.loop-v.invariant
 
 pub loop-v-preserved : goal.loop-v-preserved
-loop-v-preserved c = (
-  omega arith,
-  reached_turn c.args.w c.args.labels.now c.args.counts.now c.args.noted.now c.loop-v.v
-      (c.requires.0.rows c.loop-v.v c.loop-v-test.true) c.loop-v.invariant.1 c.row_part-row.ensures.entries
-      c.reach-joins.ensures c.raise.ensures,
-)
+loop-v-preserved c =
+    reached_turn c.args.w c.args.labels.now c.args.counts.now c.args.noted.now c.loop-v.v
+    (c.requires.0.rows c.loop-v.v c.loop-v-test.true) c.loop-v.invariant c.row_part-row.ensures.entries
+    c.reach-joins.ensures c.raise.ensures
 
 pub shape_of-sixteen : goal.shape_of-sixteen
 shape_of-sixteen c = (raise_in c.args.w c.args.labels.now c.args.counts.now c.args.noted.now c.loop-v.v
-    (omega (arith, c.requires.0.few, c.loop-v.invariant.0)) c.loop-v.invariant.1
+    (omega (arith, c.requires.0.few)) c.loop-v.invariant
     ).long
     ∙ sym (ap length c.requires.1)
 
 pub returns : goal.returns
-returns c = let e : c.loop-v.v ≡ length c.args.counts.now = omega (arith, c.loop-v.invariant.0, c.loop-v-test.false) in
-    c.loop-v.invariant.1 ∙ ap (reached_counts c.args.w c.args.labels.now c.args.counts.now c.args.noted.now) e
+returns c = let e : c.loop-v.v ≡ length c.args.counts.now = omega (arith, c.loop-v-test.false) in
+    c.loop-v.invariant ∙ ap (reached_counts c.args.w c.args.labels.now c.args.counts.now c.args.noted.now) e

@@ -1,12 +1,7 @@
 -- The counts are those of the frames below v. The loop takes one frame a turn, and ends behind the last.
-use Prim.Native.Nat.{◌-◌, ◌≤◌}
 use mathlib.Core.Path.{◌≡◌}
-use lib.ListN.{length}
 use Rattle.targets.specs.Inner.{reached_counts}
 use Rattle.targets.proofs.sixteen.count_all.Given as goal
 
 abbrev pub invariant-loop-v : goal.invariant-loop-v
-invariant-loop-v l = (l.v ≤ length l.counts) × (l.sixteen ≡ reached_counts l.w l.labels l.counts l.noted l.v)
-
-abbrev pub decreases-loop-v : goal.decreases-loop-v
-decreases-loop-v l = length l.counts - l.v
+invariant-loop-v l = l.sixteen ≡ reached_counts l.w l.labels l.counts l.noted l.v

@@ -3,14 +3,11 @@ use native.Mathlib.Omega.{arith}
 use Rattle.targets.proofs.SixteenLaws.{raised, not_raised}
 use Rattle.targets.proofs.sixteen.raise.Goals as goal
 
-pub overflow_cast-joins : goal.overflow_cast-joins
-overflow_cast-joins c = omega (arith, c.if-joins.true)
-
 pub overflow_add-sixteen : goal.overflow_add-sixteen
-overflow_add-sixteen c = omega (arith, c.lesser-i.ensures, c.requires.low c.lesser-i.result (omega (arith, c.lesser-i.ensures)))
+overflow_add-sixteen c = omega (arith, c.min-i.ensures, c.requires.low c.min-i.result (omega (arith, c.min-i.ensures)))
 
 pub returns-then-joins : goal.returns-then-joins
-returns-then-joins c = raised c.args.sixteen.now c.args.joins c.if-joins.true c.lesser-i.ensures
+returns-then-joins c = raised c.args.sixteen.now c.args.joins c.if-joins.true c.min-i.ensures
 
 pub returns-else-joins : goal.returns-else-joins
 returns-else-joins c = not_raised c.args.sixteen.now c.args.joins c.if-joins.false

@@ -1,18 +1,15 @@
 -- More records than sixteen are refused by their number; else the first so many frames are the records'.
 use mathlib.Core.Path.{◌≡◌, sym, ap, ◌∙◌}
 use native.Mathlib.Omega.{arith}
-use lib.ListN.{length, replicate}
-use Rattle.refusal.specs.Tests.{if_fine}
-use Rattle.targets.specs.Sixteen.{sixteen_by, sixteen_of}
-use Rattle.targets.specs.declared.sixteen.SixteenCounts.{SixteenCounts}
+use lib.ListN.{length}
+use Rattle.std.specs.Prelude.{Err}
+use Rattle.targets.specs.Sixteen.{sixteen_of, SixteenCounts}
 use Rattle.targets.proofs.Listed.{sixteen_many}
 use Rattle.targets.proofs.TestLaws.{frames_cut, length_in}
 use Rattle.targets.proofs.sixteen.sixteen_listed.Goals as goal
 
 pub returns-then-count-gt-MOST_TARGETS : goal.returns-then-count-gt-MOST_TARGETS
-unfolding sixteen_by if_fine
-returns-then-count-gt-MOST_TARGETS c = ap {B = SixteenCounts}
-    (λ v. record { verdict = v; counts = replicate 16 0 }) c.refused.ensures
+returns-then-count-gt-MOST_TARGETS c = ap {B = SixteenCounts} (λ r. Err r) c.at.ensures
     ∙ sym (sixteen_many _ _ _ _ _ (omega (arith, length_in c.args.listed, c.if-count-gt-MOST_TARGETS.true)))
 
 pub slice_bounds-sixteen_of-end : goal.slice_bounds-sixteen_of-end

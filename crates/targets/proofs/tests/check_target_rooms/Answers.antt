@@ -1,10 +1,13 @@
 -- Too many records are refused as a size is; behind that the rooms' own tests decide.
-use mathlib.Core.Path.{sym, ◌∙◌}
-use Rattle.targets.proofs.TestLaws.{rooms_many, rooms_few}
+use Rattle.std.proofs.Common.{rules}
+use Rattle.refusal.proofs.Laws.{then_stops, then_goes}
+use Rattle.targets.specs.Targets.{target_rooms}
 use Rattle.targets.proofs.tests.check_target_rooms.Goals as goal
 
-pub returns-then-frames-gt-MOST_TARGETS : goal.returns-then-frames-gt-MOST_TARGETS
-returns-then-frames-gt-MOST_TARGETS c = c.refused.ensures ∙ sym (rooms_many _ _ _ _ _ c.if-frames-gt-MOST_TARGETS.true)
+pub returns-in_err-test : goal.returns-in_err-test
+unfolding target_rooms
+returns-in_err-test c = then_stops _ c.test.ensures c.in_err-test.was (search rules)
 
 pub returns : goal.returns
-returns c = c.check_rooms.ensures.answer ∙ sym (rooms_few _ _ _ _ _ c.if-frames-gt-MOST_TARGETS.false)
+unfolding target_rooms
+returns c = then_goes c.test.ensures c.in_ok-test.was c.check_rooms.ensures.answer

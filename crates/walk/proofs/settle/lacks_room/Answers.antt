@@ -1,25 +1,19 @@
--- Each way out goes by the test that led there: room left, or none and the mark.
-use Prim.Native.Nat.{ℕ, ◌≤◌, ◌<◌}
-use mathlib.Core.Path.{◌≡◌, sym, ap, ◌∙◌}
-use mathlib.Core.Bool.{Bool, false, ◌&&◌, and-true, and-false}
+-- A mark above 0 says kept if it is below that of a dropped frame.
+use Prim.Native.Nat.{ℕ, ◌<◌}
+use mathlib.Core.Path.{◌≡◌, refl, sym, ◌∙◌}
+use mathlib.Core.Bool.{◌&&◌, and-true, and-false}
 use borrow.Author.Tests.{le-leb, lt-leb, lt-ltb}
-use lib.Dec.{ltb}
+use lib.Dec.{leb, ltb}
 use Rattle.walk.specs.Inner.{lacks_room, is_kept}
 use Rattle.walk.proofs.settle.lacks_room.Goals as goal
 
-room_left : (w count mark : ℕ) → count < w → lacks_room w count mark ≡ false
-unfolding lacks_room
-room_left w count mark h = ap (λ (b : Bool). is_kept mark && b) (lt-leb w count h) ∙ and-false (is_kept mark)
-
-none_left : (w count mark : ℕ) → w ≤ count → 0 < mark → lacks_room w count mark ≡ ltb mark 65536
+by_mark : (w count mark : ℕ) → 0 < mark → lacks_room w count mark ≡ ltb mark 65536 && leb w count
 unfolding lacks_room is_kept
-none_left w count mark h m =
-    ap (λ (b : Bool). is_kept mark && b) (le-leb w count h)
-    ∙ and-true (is_kept mark)
-    ∙ ap (λ (b : Bool). b && ltb mark 65536) (lt-ltb 0 mark m)
+by_mark w count mark h = rw (lt-ltb 0 mark h) refl
 
-pub returns-then-count-w : goal.returns-then-count-w
-returns-then-count-w c = sym (room_left c.args.w c.args.count c.args.mark c.if-count-w.true)
+pub returns-then-w-count : goal.returns-then-w-count
+returns-then-w-count c = sym (by_mark c.args.w c.args.count c.args.mark c.requires ∙ rw (le-leb c.args.w c.args.count c.if-w-count.true) (and-true _))
 
-pub returns : goal.returns
-returns c = sym (none_left c.args.w c.args.count c.args.mark c.if-count-w.false c.requires)
+pub returns-else-w-count : goal.returns-else-w-count
+returns-else-w-count c = let none = lt-leb c.args.w c.args.count c.if-w-count.false in
+    none ∙ sym (by_mark c.args.w c.args.count c.args.mark c.requires ∙ rw none (and-false _))

@@ -1,0 +1,131 @@
+// What ends a run before its end.
+use refusal::Refusal;
+use std::alloc::AllocError;
+use std::fmt;
+
+// The first thing that is not as it has to be.
+#[derive(Clone, Copy, Debug)]
+pub enum Difference {
+    // The order by degree was refused, for which nothing in a sound block asks.
+    Order {
+        n: usize,
+        refusal: Refusal,
+    },
+    // A build did not give what the row rule over the searches asks for.
+    Build {
+        n: usize,
+        k: usize,
+        built: Result<usize, Refusal>,
+        due: Result<usize, Refusal>,
+    },
+    // An answer is not what was searched.
+    Pair {
+        n: usize,
+        k: usize,
+        s: usize,
+        t: usize,
+        said: Result<Option<usize>, Refusal>,
+        searched: Option<usize>,
+    },
+}
+
+#[derive(Debug, Drop)]
+pub enum Fault {
+    Differs(Difference),
+    Memory(AllocError),
+}
+
+// Whether a run came to its end; a difference is printed.
+pub fn report(rt: &impl Print, outcome: Result<(), Fault>) -> Result<bool, AllocError> {
+    match outcome {
+        Ok(()) => Ok(true),
+        Err(Fault::Differs(difference)) => {
+            let _ = println!(rt; "{difference}");
+            Ok(false)
+        }
+        Err(Fault::Memory(error)) => Err(error),
+    }
+}
+
+impl From<Difference> for Fault {
+    fn from(difference: Difference) -> Self {
+        Fault::Differs(difference)
+    }
+}
+
+impl From<AllocError> for Fault {
+    fn from(error: AllocError) -> Self {
+        Fault::Memory(error)
+    }
+}
+
+// The entries of a build, or its refusal.
+#[derive(Drop)]
+struct Built(Result<usize, Refusal>);
+
+impl fmt::Display for Built {
+    fn fmt<W: fmt::Write>(&self, f: &mut fmt::Formatter<W>) -> fmt::Result {
+        match self.0 {
+            Ok(entries) => write!(f, "entries {entries}"),
+            Err(refusal) => write!(f, "{refusal}"),
+        }
+    }
+}
+
+// A number of joins, or none.
+#[derive(Drop)]
+struct Joins(Option<usize>);
+
+impl fmt::Display for Joins {
+    fn fmt<W: fmt::Write>(&self, f: &mut fmt::Formatter<W>) -> fmt::Result {
+        match self.0 {
+            Some(joins) => write!(f, "{joins}"),
+            None => write!(f, "none"),
+        }
+    }
+}
+
+// What an index said.
+#[derive(Drop)]
+struct Said(Result<Option<usize>, Refusal>);
+
+impl fmt::Display for Said {
+    fn fmt<W: fmt::Write>(&self, f: &mut fmt::Formatter<W>) -> fmt::Result {
+        match self.0 {
+            Ok(joins) => Joins(joins).fmt(f),
+            Err(refusal) => write!(f, "refused {}", refusal.number()),
+        }
+    }
+}
+
+impl fmt::Display for Difference {
+    fn fmt<W: fmt::Write>(&self, f: &mut fmt::Formatter<W>) -> fmt::Result {
+        match *self {
+            Difference::Order { n, refusal } => {
+                let number = refusal.number();
+                let place = refusal.place;
+                write!(f, "refused: n {n} k 0 number {number} place {place}")
+            }
+            Difference::Build { n, k, built, due } => {
+                let built = Built(built);
+                let due = Built(due);
+                write!(f, "differs: n {n} k {k} build {built} rule {due}")
+            }
+            Difference::Pair {
+                n,
+                k,
+                s,
+                t,
+                said,
+                searched,
+            } => {
+                let said = Said(said);
+                let searched = Joins(searched);
+                write!(
+                    f,
+                    "differs: n {n} k {k} s {s} t {t} index {said} search {searched}"
+                )
+            }
+        }
+    }
+}

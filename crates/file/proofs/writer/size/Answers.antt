@@ -1,7 +1,0 @@
--- The bytes of the file, by the paper's formula; nothing wraps.
-use native.Mathlib.Omega.{arith}
-use Rattle.rows.proofs.RoomLaws.{total_sum}
-use Rattle.file.proofs.writer.size.Goals as goal
-
-pub returns : goal.returns
-returns c = omega (arith, total_sum c.args.counts.now c.requires.1)
