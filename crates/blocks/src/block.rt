@@ -1,34 +1,40 @@
-// A block as the library takes it: start positions and lists.
+// A block as the library takes it: start positions and lists, in rooms that are lent.
 ghost use Rattle.std.specs.Prelude.{◌≤◌};
 
-use std::alloc::{AllocError, Global};
+use crate::room::List;
 
 #[derive(Drop)]
-pub struct Block {
+pub struct Block<'a> {
     pub n: u32,
-    pub starts: Vec<u32>,
-    pub places: Vec<u32>,
+    pub starts: &'a [u32],
+    pub places: &'a [u32],
     ghost in_range: { n ≤ 4096 },
 }
 
-impl Block {
-    // Lays out the block of n frames that are linked as `is_linked` says.
+impl<'a> Block<'a> {
+    // Lays out the block of n frames that are linked as `is_linked` says, at the front of two rooms.
     pub fn lay<F: Fn(u32, u32) -> bool>(
-        alloc: Global,
         n: u32,
         is_linked: F,
-    ) -> Result<Self, AllocError>
+        starts: &'a mut [u32],
+        places: &'a mut [u32],
+    ) -> Self
         requires callable { F.IsAlwaysCallable is_linked }
         requires in_range { n ≤ 4096 }
     {
-        let mut starts = vec![in alloc; 0]?;
-        let mut places = Vec::new(alloc);
+        let mut starts = List::new(starts);
+        let mut places = List::new(places);
+        starts.push(0);
         for v in 0..n {
-            places.extend((0..n).filter(|u| is_linked(v, *u)))?;
+            lay_list(n, |u| is_linked(v, u), &mut places);
             // A block has at most 4,096 * 4,096 places, so that this number is always the length.
-            starts.push(u32::try_from(places.len()).unwrap_or(u32::MAX))?;
+            starts.push(u32::try_from(places.len()).unwrap_or(u32::MAX));
         }
-        Ok(Self { n, starts, places })
+        Self {
+            n,
+            starts: starts.into_slice(),
+            places: places.into_slice(),
+        }
     }
 
     // The frames that frame v is linked to.
@@ -40,5 +46,14 @@ impl Block {
                 .unwrap_or(&[]),
             _ => &[],
         }
+    }
+}
+
+// The frames that one frame is linked to.
+fn lay_list<F: Fn(u32) -> bool>(n: u32, is_linked: F, places: &mut List<u32>)
+    requires { F.IsAlwaysCallable is_linked }
+{
+    for u in (0..n).filter(|u| is_linked(*u)) {
+        places.push(u);
     }
 }

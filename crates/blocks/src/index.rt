@@ -2,39 +2,46 @@
 ghost use Rattle.std.specs.Prelude.{◌≤◌};
 
 use crate::block::Block;
-use crate::fault::Difference;
+use crate::difference::Difference;
+use crate::room::cut;
 use build::build;
 use entry::Entry;
 use refusal::Refusal;
 use rows::pair::pair;
-use std::alloc::{AllocError, Global};
 
 #[derive(Drop)]
-pub struct Index {
+pub struct Index<'a> {
     n: usize,
     w: usize,
     k: usize,
-    labels: Vec<Entry>,
-    counts: Vec<u32>,
-    met: Vec<u32>,
-    queue: Vec<u32>,
+    labels: &'a mut [Entry],
+    counts: &'a mut [u32],
+    met: &'a mut [u32],
+    queue: &'a mut [u32],
 }
 
-impl Index {
-    // Rooms for a block, with w entries in a row.
-    pub fn new(alloc: Global, block: &Block, w: usize) -> Result<Self, AllocError>
+impl<'a> Index<'a> {
+    // Rooms for a block, with w entries in a row: the fronts of longer ones.
+    pub fn new(
+        block: &Block,
+        w: usize,
+        labels: &'a mut [Entry],
+        counts: &'a mut [u32],
+        met: &'a mut [u32],
+        queue: &'a mut [u32],
+    ) -> Self
         requires { w ≤ 256 }
     {
         let n = block.n as usize;
-        Ok(Self {
+        Self {
             n,
             w,
             k: 0,
-            labels: vec![in alloc; 0; n * w]?,
-            counts: vec![in alloc; 0; n]?,
-            met: vec![in alloc; 0; n]?,
-            queue: vec![in alloc; 0; n]?,
-        })
+            labels: cut(labels, n * w),
+            counts: cut(counts, n),
+            met: cut(met, n),
+            queue: cut(queue, n),
+        }
     }
 
     // A build up to stop k. What the rooms hold before must not matter: the rows are those of the build before, and the work
@@ -47,13 +54,13 @@ impl Index {
             self.n,
             self.w,
             k,
-            &block.starts,
-            &block.places,
+            block.starts,
+            block.places,
             order,
-            &mut self.labels,
-            &mut self.counts,
-            &mut self.met,
-            &mut self.queue,
+            self.labels,
+            self.counts,
+            self.met,
+            self.queue,
         )
     }
 
@@ -66,7 +73,7 @@ impl Index {
     }
 
     fn compare(&self, s: usize, t: usize, searched: Option<usize>) -> Result<(), Difference> {
-        let said = pair(self.n, self.w, &self.labels, &self.counts, s, t);
+        let said = pair(self.n, self.w, self.labels, self.counts, s, t);
         if said == Ok(searched) {
             return Ok(());
         }

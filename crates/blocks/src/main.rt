@@ -5,24 +5,22 @@
 // first difference.
 #![tactic(auto)]
 
-use std::alloc::AllocError;
-
 mod block;
 mod dice;
-mod fault;
+mod difference;
 mod grid;
 mod index;
 mod kind;
 mod order;
 mod random;
+mod room;
 mod rule;
 mod search;
 mod square;
 mod sums;
 mod tally;
 
-fn main(rt: HostRuntime) -> Result<(), AllocError> {
-    let alloc = rt.alloc();
-    random::random_blocks(&rt, alloc)?;
-    grid::grid(&rt, alloc)
+fn main(rt: HostRuntime) {
+    random::random_blocks(&rt);
+    grid::grid(&rt);
 }

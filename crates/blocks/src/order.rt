@@ -1,9 +1,9 @@
 // The hub orders that are tried.
 use crate::block::Block;
 use crate::dice::Dice;
-use crate::fault::{Difference, Fault};
+use crate::difference::Difference;
+use crate::room::cut;
 use links::order_by_degree;
-use std::alloc::Global;
 use std::fmt;
 
 #[derive(Clone, Copy, Debug, PartialEq, Eq)]
@@ -15,12 +15,18 @@ pub enum Order {
 impl Order {
     pub const ALL: [Order; 2] = [Order::Shuffled, Order::ByDegree];
 
-    // The frames of a block in this order. A refusal, which nothing in a sound block asks for, is a difference.
-    pub fn of(self, alloc: Global, block: &Block, seed: u64) -> Result<Vec<u32>, Fault> {
-        let mut order = (0..block.n).collect::<Vec<u32>>(alloc)?;
+    // The frames of a block in this order, at the front of a room. A refusal, which nothing in a sound block asks for, is a
+    // difference.
+    pub fn of<'a>(
+        self,
+        block: &Block,
+        seed: u64,
+        room: &'a mut [u32],
+    ) -> Result<&'a [u32], Difference> {
+        let order = cut(room, block.n as usize);
         match self {
-            Order::Shuffled => shuffle(&mut order, seed),
-            Order::ByDegree => by_degree(&mut order, block)?,
+            Order::Shuffled => shuffle(order, seed),
+            Order::ByDegree => by_degree(order, block)?,
         }
         Ok(order)
     }
@@ -35,8 +41,16 @@ impl fmt::Display for Order {
     }
 }
 
+// Each frame at the rank that is its number.
+fn number(order: &mut [u32]) {
+    for (place, frame) in order.iter_mut().zip(0..) {
+        *place = frame;
+    }
+}
+
 // A random order.
 fn shuffle(order: &mut [u32], seed: u64) {
+    number(order);
     let mut dice = Dice::new(seed);
     for last in (1..order.len()).rev() {
         order.swap(dice.below(last + 1), last);
@@ -45,7 +59,7 @@ fn shuffle(order: &mut [u32], seed: u64) {
 
 fn by_degree(order: &mut [u32], block: &Block) -> Result<(), Difference> {
     let n = order.len();
-    order_by_degree(n, &block.starts, &block.places, order).map_err(|refusal| Difference::Order {
+    order_by_degree(n, block.starts, block.places, order).map_err(|refusal| Difference::Order {
         n,
         refusal,
     })

@@ -4,7 +4,7 @@ ghost use Rattle.std.specs.Prelude.{◌<◌, ◌≤◌};
 
 use crate::block::Block;
 use crate::dice::Dice;
-use crate::fault::{Difference, Fault, report};
+use crate::difference::{Difference, report};
 use crate::index::Index;
 use crate::kind::Kind;
 use crate::order::Order;
@@ -13,7 +13,6 @@ use crate::search::Search;
 use crate::square::{SIDE, Square};
 use crate::sums::Sums;
 use crate::tally::Tally;
-use std::alloc::{AllocError, Global};
 
 // Blocks compared.
 const BLOCKS: usize = 300;
@@ -21,36 +20,22 @@ const BLOCKS: usize = 300;
 // A block in one order: its builds, and what is due by the searches from the hubs so far.
 #[derive(Drop)]
 struct Trial<'a> {
-    block: &'a Block,
-    order: Vec<u32>,
-    index: Index,
-    search: Search,
-    sums: Sums,
-    rule: Rule,
+    block: &'a Block<'a>,
+    order: &'a [u32],
+    index: Index<'a>,
+    search: Search<'a>,
+    sums: Sums<'a>,
+    rule: Rule<'a>,
 }
 
-impl<'a> Trial<'a> {
-    fn new(alloc: Global, block: &'a Block, w: usize, order: Vec<u32>) -> Result<Self, AllocError>
-        requires { w ≤ 256 }
-    {
-        let n = block.n as usize;
-        Ok(Self {
-            block,
-            order,
-            index: Index::new(alloc, block, w)?,
-            search: Search::new(alloc, n)?,
-            sums: Sums::new(alloc, n)?,
-            rule: Rule::new(alloc, n, w)?,
-        })
-    }
-
+impl Trial<'_> {
     // From no hub to all of them.
-    fn run(&mut self, tally: &mut Tally) -> Result<(), Fault> {
+    fn run(&mut self, tally: &mut Tally) -> Result<(), Difference> {
         for k in 0..=self.order.len() {
             if is_stop(self.order.len(), k) {
                 self.try_stop(k, tally)?;
             }
-            self.take_hub(k)?;
+            self.take_hub(k);
         }
         Ok(())
     }
@@ -58,7 +43,7 @@ impl<'a> Trial<'a> {
     // A build up to stop k: what it gives, then every pair unless it was refused.
     fn try_stop(&mut self, k: usize, tally: &mut Tally) -> Result<(), Difference> {
         let n = self.order.len();
-        let built = self.index.build(self.block, &self.order, k);
+        let built = self.index.build(self.block, self.order, k);
         let due = self.rule.due();
         if built != due {
             return Err(Difference::Build { n, k, built, due });
@@ -75,7 +60,8 @@ impl<'a> Trial<'a> {
 
     // Every pair of one build.
     fn compare(&self, tally: &mut Tally) -> Result<(), Difference> {
-        for (s, sums) in self.sums.rows().iter().enumerate() {
+        for s in 0..self.order.len() {
+            let sums = self.sums.row(s);
             self.index.compare_row(s, sums)?;
             tally.compared(sums.len());
         }
@@ -83,16 +69,13 @@ impl<'a> Trial<'a> {
     }
 
     // Takes the hub of rank k, if there is one, into what is due and into the sums.
-    fn take_hub(&mut self, k: usize) -> Result<(), AllocError> {
+    fn take_hub(&mut self, k: usize) {
         if let Some(hub) = self.order.get(k).copied() {
-            self.search.run(self.block, hub)?;
-            let joins = &self.search.joins;
-            if let Some(sums) = self.sums.rows().get(hub as usize) {
-                self.rule.take_hub(k, joins, sums);
-            }
+            self.search.run(self.block, hub);
+            let joins = self.search.joins();
+            self.rule.take_hub(k, joins, self.sums.row(hub as usize));
             self.sums.take_hub(joins);
         }
-        Ok(())
     }
 }
 
@@ -118,8 +101,39 @@ fn width_of(number: usize, n: usize, dice: &mut Dice) -> usize
     if number % 4 == 3 { few.min(n) } else { n }
 }
 
+// Tries a block in one order.
+fn try_order(
+    block: &Block,
+    order: Order,
+    w: usize,
+    seed: u64,
+    tally: &mut Tally,
+) -> Result<(), Difference>
+    requires { w ≤ 256 }
+{
+    let n = block.n as usize;
+    let mut hubs = [0; SIDE];
+    let mut labels = [0; SIDE * SIDE];
+    let mut counts = [0; SIDE];
+    let mut met = [0; SIDE];
+    let mut queue = [0; SIDE];
+    let mut joins = [None; SIDE];
+    let mut pending = [(0, 0); SIDE];
+    let mut sums = [[None; SIDE]; SIDE];
+    let mut sizes = [0; SIDE];
+    let mut trial = Trial {
+        block,
+        order: order.of(block, seed, &mut hubs)?,
+        index: Index::new(block, w, &mut labels, &mut counts, &mut met, &mut queue),
+        search: Search::new(n, &mut joins, &mut pending),
+        sums: Sums::new(n, &mut sums),
+        rule: Rule::new(w, &mut sizes),
+    };
+    trial.run(tally)
+}
+
 // Draws one block, and tries it in both orders.
-fn try_block(alloc: Global, number: usize, tally: &mut Tally) -> Result<(), Fault>
+fn try_block(number: usize, tally: &mut Tally) -> Result<(), Difference>
     requires { 0 < number }
 {
     let mut dice = Dice::new(number as u64);
@@ -128,28 +142,27 @@ fn try_block(alloc: Global, number: usize, tally: &mut Tally) -> Result<(), Faul
     let kind = Kind::draw(&mut dice);
     let seed = dice.seed();
     let square = Square::draw(n, kind, &mut dice);
-    let block = Block::lay(alloc, n as u32, |s, t| {
-        square.is_linked(s as usize, t as usize)
-    })?;
+    let mut starts = [0; SIDE + 1];
+    let mut places = [0; SIDE * SIDE];
+    let is_linked = |s, t| square.is_linked(s as usize, t as usize);
+    let block = Block::lay(n as u32, is_linked, &mut starts, &mut places);
     for order in Order::ALL {
-        let hubs = order.of(alloc, &block, seed / 2)?;
-        Trial::new(alloc, &block, w, hubs)?.run(tally)?;
+        try_order(&block, order, w, seed / 2, tally)?;
     }
     Ok(())
 }
 
-fn try_blocks(alloc: Global, tally: &mut Tally) -> Result<(), Fault> {
+fn try_blocks(tally: &mut Tally) -> Result<(), Difference> {
     for number in 1..=BLOCKS {
-        try_block(alloc, number, tally)?;
+        try_block(number, tally)?;
     }
     Ok(())
 }
 
 // The counts and `all equal`, or the first difference.
-pub fn random_blocks(rt: &impl Print, alloc: Global) -> Result<(), AllocError> {
+pub fn random_blocks(rt: &impl Print) {
     let mut tally = Tally::default();
-    if report(rt, try_blocks(alloc, &mut tally))? {
+    if report(rt, try_blocks(&mut tally)) {
         let _ = println!(rt; "blocks {BLOCKS} {tally}\nall equal");
     }
-    Ok(())
 }

@@ -2,25 +2,25 @@
 // counted by the row rule.
 use crate::sums::is_fewer;
 use refusal::{Reason, Refusal};
-use std::alloc::{AllocError, Global};
 
 #[derive(Drop)]
-pub struct Rule {
+pub struct Rule<'a> {
     w: usize,
     // The entries of each row so far.
-    sizes: Vec<usize>,
+    sizes: &'a mut [usize],
     // The entries of all rows so far; or the refusal at the lowest rank at which some row has more than fit.
     due: Result<usize, Refusal>,
 }
 
-impl Rule {
-    // Of n frames, with at most w entries in a row, before the first hub.
-    pub fn new(alloc: Global, n: usize, w: usize) -> Result<Self, AllocError> {
-        Ok(Self {
+impl<'a> Rule<'a> {
+    // With at most w entries in a row, before the first hub.
+    pub fn new(w: usize, sizes: &'a mut [usize]) -> Self {
+        sizes.fill(0);
+        Self {
             w,
-            sizes: vec![in alloc; 0; n]?,
+            sizes,
             due: Ok(0),
-        })
+        }
     }
 
     pub fn due(&self) -> Result<usize, Refusal> {

@@ -1,6 +1,7 @@
 // For each pair of frames the least sum over the hubs taken so far: the joins from the first frame to the hub and on to the
 // second. None where no hub reaches both.
-use std::alloc::{AllocError, Global};
+use crate::room::cut;
+use crate::square::SIDE;
 
 // Whether a number of joins is fewer than another, where None is no chain.
 pub fn is_fewer(joins: Option<usize>, than: Option<usize>) -> bool {
@@ -8,20 +9,27 @@ pub fn is_fewer(joins: Option<usize>, than: Option<usize>) -> bool {
 }
 
 #[derive(Drop)]
-pub struct Sums {
-    rows: Vec<Vec<Option<usize>>>,
+pub struct Sums<'a> {
+    n: usize,
+    rows: &'a mut [[Option<usize>; SIDE]],
 }
 
-impl Sums {
+impl<'a> Sums<'a> {
     // Of n frames, before the first hub.
-    pub fn new(alloc: Global, n: usize) -> Result<Self, AllocError> {
-        let rows = (0..n).map(|_| vec![in alloc; None; n]).try_collect(alloc)?;
-        Ok(Self { rows })
+    pub fn new(n: usize, rows: &'a mut [[Option<usize>; SIDE]]) -> Self {
+        let rows = cut(rows, n);
+        for row in rows.iter_mut() {
+            cut(row, n).fill(None);
+        }
+        Self { n, rows }
     }
 
-    // For each frame its sums with each.
-    pub fn rows(&self) -> &[Vec<Option<usize>>] {
-        &self.rows
+    // The sums of frame s with each.
+    pub fn row(&self, s: usize) -> &[Option<usize>] {
+        self.rows
+            .get(s)
+            .and_then(|row| row.get(..self.n))
+            .unwrap_or(&[])
     }
 
     // Takes one more hub into the sums, by the joins from it to each frame.

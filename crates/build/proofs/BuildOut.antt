@@ -1,12 +1,11 @@
 -- The build's outcome: what is left when a test is refused, when a walk is refused, and when all walks are made.
-use Rattle.refusal.specs.Tests.{Verdict, fine}
+use Rattle.refusal.specs.Tests.{Verdict, fine, Refusal}
 use Rattle.std.specs.Prelude.{Ok, Err}
 use Prim.Native.Nat.{ℕ, ◌*◌}
 use mathlib.Core.Path.{◌≡◌, refl, sym, ap, ◌∙◌}
 use mathlib.Core.List.{List}
 use lib.ListN.{length, get_or, replicate, length-replicate}
 use Rattle.basics.specs.Places.{sum}
-use Rattle.refusal.specs.declared.Refusal.{Refusal}
 use Rattle.refusal.proofs.Laws.{Named, named, gives_apart, refuses_apart, gives_refuses}
 use Rattle.theory.specs.Plain.{row_by}
 use Rattle.rows.specs.Inner.{Laid}

@@ -11,8 +11,7 @@ use Rattle.basics.proofs.Laws.{both_true}
 use Rattle.refusal.specs.Numbers.{SIZE, LENGTH}
 use Rattle.refusal.specs.Sizes.{sizes_fit, places_fit}
 use Rattle.refusal.specs.Inner.{Sizes}
-use Rattle.refusal.specs.Tests.{test, ◌then◌, Verdict, fine}
-use Rattle.refusal.specs.declared.Refusal.{Refusal}
+use Rattle.refusal.specs.Tests.{test, ◌then◌, Verdict, fine, Refusal}
 use Rattle.refusal.proofs.Laws.{test_fine, test_held, after_fine, after_refused, then_fine, then_assoc}
 use Rattle.refusal.proofs.SizeLaws.{sizes_held, places_held}
 use Rattle.links.specs.Links.{starts_test, lists_test, check_links}

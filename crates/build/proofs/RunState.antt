@@ -1,6 +1,6 @@
 -- The state of a run between two walks: rooms that hold the rule's rows at the rank reached, work rooms 0, and no rank
 -- before it that stops. One walk takes it to the next rank, or the run ends there.
-use Rattle.refusal.specs.Tests.{Verdict, fine}
+use Rattle.refusal.specs.Tests.{Verdict, fine, Refusal}
 use Rattle.std.specs.Prelude.{Ok, Err}
 use Prim.Native.Nat.{ℕ, ◌+◌, ◌*◌, ◌≤◌, ◌<◌}
 use mathlib.Core.Path.{◌≡◌, refl, sym, ap, ◌∙◌}
@@ -11,7 +11,6 @@ use native.Mathlib.Omega.{arith}
 use borrow.Author.Count.{below_more}
 use lib.ListN.{length, replicate, length-replicate}
 use Rattle.basics.proofs.Laws.{bcase, neither, either_left, either_right, cond_true, cond_false}
-use Rattle.refusal.specs.declared.Refusal.{Refusal}
 use Rattle.refusal.proofs.Laws.{fine_not_refused}
 use Rattle.theory.specs.Links.{hub_of}
 use Rattle.theory.specs.Rows.{Row}

@@ -1,11 +1,10 @@
 -- What a build gives back and leaves in the rooms it is lent: the paper's tests, and then the rows of the ROW RULE, not of
 -- any walk. n frames, width w, stop k, start positions S, neighbour places L, order O.
-use Rattle.refusal.specs.declared.Refusal.{Refusal}
 use Rattle.std.specs.Prelude.{ℕ, suc, ◌+◌, ◌*◌, Bool, cond, ◌&&◌, ◌||◌, List, [], ◌∷◌, length, replicate, leb, ltb, eqb, Ok, Err, Result}
 use Rattle.basics.specs.Places.{first, some, sum}
 use Rattle.refusal.specs.Numbers.{SIZE, LENGTH, ROOM, FAR}
 use Rattle.refusal.specs.Sizes.{most_joins, sizes_fit, places_fit}
-use Rattle.refusal.specs.Tests.{test, ◌then◌, Verdict}
+use Rattle.refusal.specs.Tests.{test, ◌then◌, Verdict, Refusal}
 use Rattle.refusal.specs.Told.{Told, gives, refuses}
 use Rattle.theory.specs.Distance.{far}
 use Rattle.theory.specs.Links.{hub_of}

@@ -4,12 +4,11 @@ use Rattle.std.specs.Prelude.{ℕ, ◌*◌, ◌≤◌, ◌≡◌, List, length, 
 use Rattle.refusal.specs.Numbers.{ROOM, FAR}
 use Rattle.refusal.specs.Inner.{Sizes}
 use Rattle.refusal.specs.Sizes.{most_frames}
-use Rattle.refusal.specs.Tests.{refusal, Verdict, fine}
+use Rattle.refusal.specs.Tests.{refusal, Verdict, fine, Refusal}
 use Rattle.theory.specs.Links.{Block, Order}
 use Rattle.theory.specs.Plain.{ones, row_by}
 use Rattle.rows.specs.Inner.{Laid}
 use Rattle.walk.specs.Inner.{lacking}
-use Rattle.refusal.specs.declared.Refusal.{Refusal}
 use Rattle.walk.specs.Walk.{Walked}
 use Rattle.walk.specs.declared.Unmade.{Unmade}
 use Rattle.walk.specs.declared.Unmade.TheVariants.{Full, Far}

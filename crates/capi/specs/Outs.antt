@@ -1,7 +1,7 @@
 -- What a C caller sees of a call: what is told of it, in the record that every answer has its numbers in, and the lent rooms.
 use Rattle.std.specs.Prelude.{ℕ, List, [], ◌∷◌, Result, Ok, Err}
 use Rattle.refusal.specs.Told.{Told, gives, refuses, verdict_told}
-use Rattle.refusal.specs.declared.Refusal.{Refusal}
+use Rattle.refusal.specs.Tests.{Refusal}
 use Rattle.links.specs.Order.{Ordered}
 use Rattle.build.specs.Build.{BuildOutcome}
 use Rattle.file.specs.Writer.{WriteOutcome}

@@ -2,13 +2,11 @@
 // `stdout`, which tools/cases.py makes from the paper alone, with the files.
 #![tactic(auto)]
 
-use std::alloc::AllocError;
-
 mod files;
 mod rooms;
 mod worked;
 
-fn main(rt: HostRuntime) -> Result<(), AllocError> {
-    worked::run(&rt, rt.alloc())?;
-    files::run(&rt)
+fn main(rt: HostRuntime) {
+    worked::run(&rt);
+    files::run(&rt);
 }

@@ -1,5 +1,4 @@
 // The survey's block: which frames overlap.
-use std::alloc::{AllocError, Global};
 
 // Frames of the deck and of the ramp, and of one strip.
 pub const FRAMES: u32 = 256;
@@ -9,24 +8,40 @@ const STRIP: u32 = 32;
 // The strip that is the ramp.
 const RAMP: u32 = 7;
 
-// The start positions and the neighbour places.
+// The start positions and the neighbour places, in fixed memory: of the places, as many as the lists fill.
 #[derive(Drop)]
 pub struct Survey {
-    pub starts: Vec<u32>,
-    pub places: Vec<u32>,
+    pub starts: [u32; FRAMES as usize + 1],
+    places: [u32; 1024],
+    filled: usize,
 }
 
 impl Survey {
-    pub fn new(alloc: Global) -> Result<Self, AllocError> {
-        let mut starts = vec![in alloc; 0]?;
-        let mut places = Vec::new(alloc);
+    pub fn new() -> Self {
+        let mut survey = Self {
+            starts: [0; FRAMES as usize + 1],
+            places: [0; 1024],
+            filled: 0,
+        };
         for v in 0..FRAMES {
-            places.extend((0..FRAMES).filter(|u| overlap(v, *u)))?;
-            // More places than a start position counts find no room.
-            let end = u32::try_from(places.len()).map_err(|_| AllocError)?;
-            starts.push(end)?;
+            for u in (0..FRAMES).filter(|u| overlap(v, *u)) {
+                survey.push(u);
+            }
+            survey.starts[v as usize + 1] = u32::try_from(survey.filled).unwrap_or(u32::MAX);
         }
-        Ok(Self { starts, places })
+        survey
+    }
+
+    // Puts a frame behind the neighbour places; one that has no room is left out.
+    fn push(&mut self, u: u32) {
+        if let Some(place) = self.places.get_mut(self.filled) {
+            *place = u;
+            self.filled += 1;
+        }
+    }
+
+    pub fn places(&self) -> &[u32] {
+        self.places.get(..self.filled).unwrap_or(&[])
     }
 }
 

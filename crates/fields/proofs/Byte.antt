@@ -10,7 +10,7 @@ use lib.Seq.{take-suc-set, drop-set-lt}
 use lib.Pow.{pow-add, mod-pow-add}
 use lib.Arith.{digits_lt}
 use Rattle.basics.proofs.Laws.{drop_later}
-use Rattle.fields.specs.declared.put.Pen.{Pen}
+use Rattle.fields.specs.declared.put.Sheet.{Sheet}
 use Rattle.fields.specs.Bits.{Field, val, bit_len, num}
 use Rattle.fields.specs.Inner.{Legal, pen_bits, pen_num, Ready, Put}
 use Rattle.fields.proofs.Bits.{val_snoc, horner, num_split, num_lt}
@@ -49,42 +49,42 @@ module _ {o₀ : List ℕ} {x b whole : ℕ} {o : List ℕ} {at nb : ℕ} (s : B
       }
 
 -- fields as one number, behind the bits that the pen holds
-module _ {p : Pen} {fs : List Field} (r : Ready p fs) (L : ℕ) (l : bit_len fs ≡ L) where
-  pub whole_lt : p.acc * 2 ^ L + num 0 fs < 2 ^ (p.nb + L)
+module _ {p : Sheet} {fs : List Field} (r : Ready p fs) (L : ℕ) (l : bit_len fs ≡ L) where
+  pub whole_lt : p.pen.acc * 2 ^ L + num 0 fs < 2 ^ (p.pen.nb + L)
   whole_lt =
-      subst (λ (y : ℕ). p.acc * 2 ^ L + num 0 fs < y) (sym (pow-add 2 p.nb L))
+      subst (λ (y : ℕ). p.pen.acc * 2 ^ L + num 0 fs < y) (sym (pow-add 2 p.pen.nb L))
       (digits_lt p.below (subst (λ (k : ℕ). num 0 fs < 2 ^ k) l (num_lt fs r.legal)))
 
   -- no byte is stored yet
-  pub byte_none : {whole : ℕ} → whole ≡ p.acc * 2 ^ L + num 0 fs →
-      BytesLeft p.out.now (num (pen_num p) fs) (pen_bits p + L) whole p.out.now p.at (p.nb + L)
+  pub byte_none : {whole : ℕ} → whole ≡ p.pen.acc * 2 ^ L + num 0 fs →
+      BytesLeft p.out.now (num (pen_num p.out.now p.pen) fs) (pen_bits p.pen + L) whole p.out.now p.pen.at (p.pen.nb + L)
   unfolding pen_num
   byte_none {whole} e =
-      let F : ℕ = val (take p.at p.out.now) in
+      let F : ℕ = val (take p.pen.at p.out.now) in
       let N : ℕ = num 0 fs in
-      let w : whole % 2 ^ (p.nb + L) ≡ p.acc * 2 ^ L + N = ap (λ (y : ℕ). y % 2 ^ (p.nb + L)) e ∙ mod-eq_of_lt whole_lt in
+      let w : whole % 2 ^ (p.pen.nb + L) ≡ p.pen.acc * 2 ^ L + N = ap (λ (y : ℕ). y % 2 ^ (p.pen.nb + L)) e ∙ mod-eq_of_lt whole_lt in
       record {
         bits = omega arith;
         inside = omega (arith, r.space);
         number =
-            ap₂ (λ (y z : ℕ). F * y + z) (pow-add 2 p.nb L) w
-            ∙ sym (num_split (pen_num p) fs
-            ∙ ap (λ (k : ℕ). (F * 2 ^ p.nb + p.acc) * 2 ^ k + N) l
-            ∙ horner F p.acc N (2 ^ p.nb) (2 ^ L));
+            ap₂ (λ (y z : ℕ). F * y + z) (pow-add 2 p.pen.nb L) w
+            ∙ sym (num_split (pen_num p.out.now p.pen) fs
+            ∙ ap (λ (k : ℕ). (F * 2 ^ p.pen.nb + p.pen.acc) * 2 ^ k + N) l
+            ∙ horner F p.pen.acc N (2 ^ p.pen.nb) (2 ^ L));
         long = refl;
         rest = refl;
       }
 
   -- fewer than eight bits are left
-  pub byte_end : {whole : ℕ} {p1 : Pen} → p1.out.ghost_name ≡ p.out.ghost_name → BytesLeft p.out.now (num (pen_num p) fs) (pen_bits p + L) whole p1.out.now p1.at p1.nb →
-      p1.acc ≡ whole % 2 ^ p1.nb → Put p fs p1
+  pub byte_end : {whole : ℕ} {p1 : Sheet} → p1.out.ghost_name ≡ p.out.ghost_name → BytesLeft p.out.now (num (pen_num p.out.now p.pen) fs) (pen_bits p.pen + L) whole p1.out.now p1.pen.at p1.pen.nb →
+      p1.pen.acc ≡ whole % 2 ^ p1.pen.nb → Put p fs p1
   unfolding pen_num bit_len num Legal
   byte_end {whole} {p1} same s e =
       record {
         ready = record { space = omega (arith, s.bits, s.inside); legal = tt };
         same = same;
         bits = omega (arith, s.bits);
-        number = ap (λ (y : ℕ). val (take p1.at p1.out.now) * 2 ^ p1.nb + y) e ∙ s.number;
+        number = ap (λ (y : ℕ). val (take p1.pen.at p1.out.now) * 2 ^ p1.pen.nb + y) e ∙ s.number;
         long = s.long;
         keep = s.rest;
       }

@@ -10,7 +10,7 @@ use Rattle.basics.proofs.Laws.{drop_later}
 use Rattle.fields.specs.Bits.{Field, val, bit_len, num}
 use Rattle.fields.specs.Layout.{fields_from}
 use Rattle.fields.specs.Inner.{Legal, pen_bits, pen_num, Ready, Left, Put}
-use Rattle.fields.specs.declared.put.Pen.{Pen}
+use Rattle.fields.specs.declared.put.Sheet.{Sheet}
 use Rattle.fields.proofs.Bits.{num_append, bit_len_append}
 use Rattle.fields.proofs.LayoutLaws.{fields_next, fields_end}
 
@@ -25,18 +25,18 @@ legal_back [] gs h = h
 legal_back (f ∷ fs) gs h = legal_back fs gs h.1
 
 -- with a pen that has written nothing no number is there yet
-pub fresh_num : (p : Pen) → pen_bits p ≡ 0 → pen_num p ≡ 0
+pub fresh_num : (p : Sheet) → pen_bits p.pen ≡ 0 → pen_num p.out.now p.pen ≡ 0
 unfolding pen_num val
 fresh_num p h =
-    let at : p.at ≡ 0 = omega arith in
-    let nb : p.nb ≡ 0 = omega arith in
-    let acc : p.acc ≡ 0 = lt-one (subst (λ (k : ℕ). p.acc < 2 ^ k) nb p.below) in
-    ap₂ (λ (i x : ℕ). val (take i p.out.now) * 2 ^ p.nb + x) at acc ∙ omega arith
+    let at : p.pen.at ≡ 0 = omega arith in
+    let nb : p.pen.nb ≡ 0 = omega arith in
+    let acc : p.pen.acc ≡ 0 = lt-one (subst (λ (k : ℕ). p.pen.acc < 2 ^ k) nb p.below) in
+    ap₂ (λ (i x : ℕ). val (take i p.out.now) * 2 ^ p.pen.nb + x) at acc ∙ omega arith
 
-pub left_start : {p : Pen} {all : List Field} → Ready p all → Left p all p all
+pub left_start : {p : Sheet} {all : List Field} → Ready p all → Left p all p all
 left_start r = record { ready = r; same = refl; bits = refl; number = refl; long = refl; keep = refl }
 
-module _ {p₀ : Pen} {all : List Field} {p : Pen} where
+module _ {p₀ : Sheet} {all : List Field} {p : Sheet} where
   -- the next fields have room
   pub left_ready : {rest : List Field} → Left p₀ all p rest → (fs gs : List Field) → rest ≡ fs ++ gs → Ready p fs
   left_ready {rest} s fs gs e =
@@ -48,12 +48,12 @@ module _ {p₀ : Pen} {all : List Field} {p : Pen} where
 
   -- they were put
   pub left_step : {rest : List Field} → Left p₀ all p rest → (fs gs : List Field) → rest ≡ fs ++ gs →
-      {p1 : Pen} → Put p fs p1 → Left p₀ all p1 gs
+      {p1 : Sheet} → Put p fs p1 → Left p₀ all p1 gs
   unfolding bit_len num
   left_step {rest} s fs gs e {p1} u =
       let len : bit_len rest ≡ bit_len fs + bit_len gs = ap bit_len e ∙ bit_len_append fs gs in
-      let bits1 : pen_bits p1 ≡ pen_bits p + bit_len fs = sym (add-zero (pen_bits p1)) ∙ u.bits in
-      let space0 : pen_bits p + bit_len rest ≤ 8 * length p.out.now = s.ready.space in
+      let bits1 : pen_bits p1.pen ≡ pen_bits p.pen + bit_len fs = sym (add-zero (pen_bits p1.pen)) ∙ u.bits in
+      let space0 : pen_bits p.pen + bit_len rest ≤ 8 * length p.out.now = s.ready.space in
       let long1 : length p1.out.now ≡ length p.out.now = u.long in
       record {
         ready =
@@ -64,9 +64,9 @@ module _ {p₀ : Pen} {all : List Field} {p : Pen} where
         same = u.same ∙ s.same;
         bits = omega (arith, s.bits);
         number =
-            ap (λ (x : ℕ). num x gs) u.number ∙ sym (num_append (pen_num p) fs gs) ∙ ap (num (pen_num p)) (sym e) ∙ s.number;
+            ap (λ (x : ℕ). num x gs) u.number ∙ sym (num_append (pen_num p.out.now p.pen) fs gs) ∙ ap (num (pen_num p.out.now p.pen)) (sym e) ∙ s.number;
         long = u.long ∙ s.long;
-        keep = u.keep ∙ drop_later p.out.now p₀.out.now p.at p1.at (omega arith) s.keep;
+        keep = u.keep ∙ drop_later p.out.now p₀.out.now p.pen.at p1.pen.at (omega arith) s.keep;
       }
 
   -- the same for one field
@@ -74,7 +74,7 @@ module _ {p₀ : Pen} {all : List Field} {p : Pen} where
   next_ready {f} {gs} s = left_ready s (f ∷ []) gs refl
 
   pub next_step : {f : Field} {gs : List Field} → Left p₀ all p (f ∷ gs) →
-      {p1 : Pen} → Put p (f ∷ []) p1 → Left p₀ all p1 gs
+      {p1 : Sheet} → Put p (f ∷ []) p1 → Left p₀ all p1 gs
   next_step {f} {gs} s u = left_step s (f ∷ []) gs refl u
 
   -- nothing is left
@@ -86,7 +86,7 @@ module _ {p₀ : Pen} {all : List Field} {p : Pen} where
     pub place_ready : v < end → Ready p (one v)
     place_ready h = left_ready s _ _ (fields_next one v end h)
 
-    pub place_step : v < end → {p1 : Pen} → Put p (one v) p1 → Left p₀ all p1 (fields_from one (v + 1) (end - (v + 1)))
+    pub place_step : v < end → {p1 : Sheet} → Put p (one v) p1 → Left p₀ all p1 (fields_from one (v + 1) (end - (v + 1)))
     place_step h u = left_step s _ _ (fields_next one v end h) u
 
     pub places_end : end ≤ v → Put p₀ all p

@@ -6,18 +6,24 @@ use crate::widths;
 use entry;
 use entry::Entry;
 
-// A pen and the room that it writes: `at` bytes are finished, and `nb` bits, below eight, of value `acc` are not yet a byte.
-#[derive(Drop)]
-pub struct Pen<'a> {
-    out: &'a mut [u8],
-    at: usize,
-    acc: usize,
-    nb: usize,
-    pub ghost small: { nb < 8 },
-    pub ghost below: { acc < 2 ^ nb },
+// A pen: `at` bytes are finished, and `nb` bits, below eight, of value `acc` are not yet a byte.
+#[derive(Clone, Copy)]
+pub struct Pen {
+    pub at: usize,
+    pub acc: usize,
+    pub nb: usize,
 }
 
-impl<'a> Pen<'a> {
+// A pen on the room that it writes.
+#[derive(Drop)]
+pub struct Sheet<'a> {
+    pub out: &'a mut [u8],
+    pub pen: Pen,
+    pub ghost small: { pen.nb < 8 },
+    pub ghost below: { pen.acc < 2 ^ pen.nb },
+}
+
+impl<'a> Sheet<'a> {
     ghost use Rattle.std.specs.Prelude.{[], ◌∷◌, ℕ, ◌+◌, ◌*◌, ◌≤◌, ◌<◌, ◌≡◌};
     ghost use Rattle.fields.specs.Bits.{field};
     ghost use Rattle.fields.specs.Layout.{header_fields, order_fields, entry_fields, entries_fields, row_fields, rows_fields};
@@ -25,16 +31,18 @@ impl<'a> Pen<'a> {
     ghost use Rattle.rows.specs.Inner.{RowLies};
 
     // A pen at the front of a room: nothing is written.
-    pub fn new(out: &'a mut [u8]) -> Pen<'a>
+    pub fn new(out: &'a mut [u8]) -> Sheet<'a>
         ensures same_reference { result.out.ghost_name ≡ out.entry.ghost_name }
-        ensures fresh { pen_bits result ≡ 0 }
+        ensures fresh { pen_bits result.pen ≡ 0 }
         ensures room { result.out.now ≡ out.old }
     {
-        Pen {
+        Sheet {
             out,
-            at: 0,
-            acc: 0,
-            nb: 0,
+            pen: Pen {
+                at: 0,
+                acc: 0,
+                nb: 0,
+            },
         }
     }
 
@@ -43,18 +51,20 @@ impl<'a> Pen<'a> {
         requires { Ready self.old (field value width ∷ []) × (width ≤ 16) }
         ensures { Put self.old (field value width ∷ []) self.new }
     {
-        let whole = (self.acc << width) + value;
-        let mut at = self.at;
-        let mut nb = self.nb + width;
+        let whole = (self.pen.acc << width) + value;
+        let mut at = self.pen.at;
+        let mut nb = self.pen.nb + width;
         // A byte goes for as long as eight bits are there: no range of numbers says this more plainly.
         while 8 <= nb {
             nb -= 8;
             self.out[at] = ((whole >> nb) % 256) as u8;
             at += 1;
         }
-        self.at = at;
-        self.acc = whole & ((1 << nb) - 1);
-        self.nb = nb;
+        self.pen = Pen {
+            at,
+            acc: whole & ((1 << nb) - 1),
+            nb,
+        };
     }
 
     // Puts one entry, its rank and its joins, as one number: three bytes are then whole, and as many bits wait as before.
@@ -63,18 +73,20 @@ impl<'a> Pen<'a> {
         requires { Ready self.old (entry_fields e) }
         ensures { Put self.old (entry_fields e) self.new }
     {
-        let at = self.at;
-        let nb = self.nb;
+        let Pen { at, acc, nb } = self.pen;
         let rank = entry::rank_of(e);
         let joins = entry::joins_of(e);
         let both = (rank << widths::JOINS_BITS) + joins;
-        let whole = (self.acc << widths::ENTRY_BITS) + both;
+        let whole = (acc << widths::ENTRY_BITS) + both;
         let [_, first, second, third] = ((whole >> nb) as u32).to_be_bytes();
         self.out[at] = first;
         self.out[at + 1] = second;
         self.out[at + 2] = third;
-        self.at = at + 3;
-        self.acc = both & ((1 << nb) - 1);
+        self.pen = Pen {
+            at: at + 3,
+            acc: both & ((1 << nb) - 1),
+            nb,
+        };
     }
 
     // Puts the entries of a row.
@@ -136,8 +148,8 @@ impl<'a> Pen<'a> {
         requires { Ready self.old [] }
         ensures { Closed self.old self.new }
     {
-        if 0 < self.nb {
-            self.out[self.at] = (self.acc << (8 - self.nb)) as u8;
+        if 0 < self.pen.nb {
+            self.out[self.pen.at] = (self.pen.acc << (8 - self.pen.nb)) as u8;
         }
     }
 }

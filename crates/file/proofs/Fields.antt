@@ -11,8 +11,7 @@ use borrow.Author.Tests.{le-leb, lt-leb, lt-ltb, leb-true, eq-eqb, ne_eqb, not-t
 use Rattle.basics.specs.Places.{stands}
 use Rattle.basics.proofs.Laws.{both_true, not_of_false}
 use Rattle.refusal.specs.Numbers.{ROOM, FIELD, LONG}
-use Rattle.refusal.specs.Tests.{◌then◌, refusal, test, Verdict, fine}
-use Rattle.refusal.specs.declared.Refusal.{Refusal}
+use Rattle.refusal.specs.Tests.{◌then◌, refusal, test, Verdict, fine, Refusal}
 use Rattle.refusal.proofs.Laws.{test_fine, test_refused, test_held, then_fine, after_fine, after_refused}
 use Rattle.links.specs.Order.{faulty_rank}
 use Rattle.links.proofs.Order.{rank_sound, sound_inside}

@@ -10,8 +10,7 @@ use lib.Dec.{leb, ltb, eqb}
 use borrow.Author.Tests.{le-leb, lt-leb, lt-ltb, eq-eqb, ne_eqb, leb-true, ltb-true, eqb-true}
 use Rattle.basics.proofs.Laws.{same_truth}
 use Rattle.refusal.specs.Numbers.{SHORT, VERSION, FIELD}
-use Rattle.refusal.specs.Tests.{◌then◌, refusal, test, Verdict, fine}
-use Rattle.refusal.specs.declared.Refusal.{Refusal}
+use Rattle.refusal.specs.Tests.{◌then◌, refusal, test, Verdict, fine, Refusal}
 use Rattle.refusal.proofs.Laws.{test_fine, test_refused, test_held, then_fine, after_fine, after_refused}
 use Rattle.fields.specs.Bits.{field_at, byte_len}
 use Rattle.file.specs.declared.Index.{Index}

@@ -1,7 +1,7 @@
 -- A file that is read without refusal is exactly the file of the index read: every test that was fine says that the
 -- layout's next field is there, so the bytes are the layout's fields packed. So a byte string is refused, or it is the file
 -- of one index.
-use Rattle.refusal.specs.Tests.{Verdict, fine}
+use Rattle.refusal.specs.Tests.{Verdict, fine, Refusal}
 use Rattle.std.specs.Prelude.{Ok, Err}
 use Prim.Native.Nat.{ℕ, suc, ◌+◌, ◌-◌, ◌*◌, ◌≤◌, ◌<◌}
 use mathlib.Core.Path.{◌≡◌, refl, sym, ap, subst, ◌∙◌}
@@ -13,7 +13,6 @@ use lib.ListN.{length, get_or, take, drop}
 use borrow.Author.Tests.{leb-true, eqb-true}
 use Rattle.basics.proofs.Laws.{length_table}
 use Rattle.refusal.specs.Numbers.{FIELD, LONG}
-use Rattle.refusal.specs.declared.Refusal.{Refusal}
 use Rattle.refusal.proofs.Laws.{test_held, then_fine, vcase}
 use Rattle.fields.specs.Bits.{field_at, Field, bit_len, byte_len, pad_len, Bytes}
 use Rattle.fields.specs.Inner.{Reads}

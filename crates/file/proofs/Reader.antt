@@ -8,8 +8,7 @@ use native.Mathlib.Omega.{arith}
 use lib.ListN.{length}
 use Rattle.refusal.specs.Numbers.{SIZE, LENGTH}
 use Rattle.refusal.specs.Sizes.{width_fits}
-use Rattle.refusal.specs.Tests.{Verdict, fine}
-use Rattle.refusal.specs.declared.Refusal.{Refusal}
+use Rattle.refusal.specs.Tests.{Verdict, fine, Refusal}
 use Rattle.refusal.proofs.Laws.{test_fine, test_held, then_fine, after_fine, tests_each}
 use Rattle.refusal.proofs.SizeLaws.{width_held}
 use Rattle.file.specs.Index.{lengths_fit}

@@ -10,9 +10,8 @@ use lib.Dec.{ltb}
 use borrow.Author.Tests.{le-leb, lt-leb, leb-true, ltb-true}
 use Rattle.basics.proofs.Laws.{not_both}
 use Rattle.refusal.specs.Numbers.{SHORT, FIELD}
-use Rattle.refusal.specs.Tests.{◌then◌, refusal, test, Verdict, fine}
+use Rattle.refusal.specs.Tests.{◌then◌, refusal, test, Verdict, fine, Refusal}
 use Rattle.refusal.specs.declared.Reason.{Reason}
-use Rattle.refusal.specs.declared.Refusal.{Refusal}
 use Rattle.refusal.proofs.Laws.{test_fine, test_refused, test_held, then_fine, after_fine, after_refused, fine_not_refused, vcase}
 use Rattle.fields.specs.Bits.{field_at, byte_len}
 use Rattle.file.specs.Reader.{short_test, field_test}

@@ -9,8 +9,7 @@ use lib.ListN.{length, get_or, take, drop}
 use lib.Seq.{drop-drop, take_at, drop_at, length-take-le}
 use Rattle.basics.proofs.Laws.{both, both_true}
 use Rattle.refusal.specs.Numbers.{OUT}
-use Rattle.refusal.specs.Tests.{◌then◌, Verdict, fine}
-use Rattle.refusal.specs.declared.Refusal.{Refusal}
+use Rattle.refusal.specs.Tests.{◌then◌, Verdict, fine, Refusal}
 use Rattle.refusal.proofs.Laws.{test_fine, test_held, then_fine, after_fine, vcase, Named, named, gives_apart, refuses_apart, gives_refuses}
 use Rattle.fields.specs.Layout.{file_of}
 use Rattle.file.specs.Writer.{write_tests, out_fits, out_test, written_told, write_outcome, WriteOutcome, filled_from, write_of, Written}

@@ -1,7 +1,6 @@
 -- What the inner functions of the file ask of each other and promise: one step of the reader, what the storing pass asks of
 -- a file whose tests are fine and leaves in a room, and an index that the writer's tests let through.
-use Rattle.refusal.specs.declared.Refusal.{Refusal}
-use Rattle.refusal.specs.Tests.{Verdict, fine}
+use Rattle.refusal.specs.Tests.{Verdict, fine, Refusal}
 use Rattle.std.specs.Prelude.{ℕ, ◌+◌, ◌*◌, ◌^◌, ◌≤◌, ◌<◌, ◌≡◌, List, length, Ok, Err, Result}
 use Rattle.links.specs.Order.{order_test}
 use Rattle.rows.specs.Inner.{Rooms}

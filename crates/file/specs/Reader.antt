@@ -1,12 +1,11 @@
 -- The reader of the index file, in the paper's words: the tests in their order, each field at its first bit, and what the
 -- rooms hold afterwards. `s` is the byte string, n the frames and k the stop that its header gives, w the width of the call.
-use Rattle.refusal.specs.declared.Refusal.{Refusal}
 use Rattle.file.specs.declared.Index.{Index}
 use Rattle.std.specs.Prelude.{ℕ, zero, suc, ◌+◌, ◌*◌, ◌/◌, ◌%◌, Bool, cond, not, ◌&&◌, List, [], ◌∷◌, length, leb, ltb, eqb, Ok, Err, Result}
 use Rattle.basics.specs.Places.{table}
 use Rattle.refusal.specs.Numbers.{SIZE, LENGTH, ROOM, SHORT, VERSION, FIELD, LONG}
 use Rattle.refusal.specs.Sizes.{most_width, width_fits}
-use Rattle.refusal.specs.Tests.{test, ◌then◌, tests_from, Verdict}
+use Rattle.refusal.specs.Tests.{test, ◌then◌, tests_from, Verdict, Refusal}
 use Rattle.refusal.specs.Told.{Told, gives, refuses}
 use Rattle.links.specs.Order.{faulty_rank}
 use Rattle.entry.specs.Entry.{entry_of}

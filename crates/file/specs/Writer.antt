@@ -1,10 +1,9 @@
 -- The writer of the index file, in the paper's words: the tests in their order, and what the output room holds afterwards.
 -- n frames, width w, stop k, order O, label room and count room; the file goes into the output room from byte `start` on.
-use Rattle.refusal.specs.declared.Refusal.{Refusal}
 use Rattle.std.specs.Prelude.{ℕ, ◌+◌, ◌-◌, Bool, ◌&&◌, List, [], ◌∷◌, ◌++◌, length, take, drop, leb, Ok, Err, Result}
 use Rattle.refusal.specs.Numbers.{SIZE, LENGTH, OUT}
 use Rattle.refusal.specs.Sizes.{sizes_fit}
-use Rattle.refusal.specs.Tests.{test, ◌then◌, Verdict}
+use Rattle.refusal.specs.Tests.{test, ◌then◌, Verdict, Refusal}
 use Rattle.refusal.specs.Told.{Told, gives, refuses}
 use Rattle.links.specs.Order.{order_test}
 use Rattle.rows.specs.Rooms.{rows_test}

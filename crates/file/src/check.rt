@@ -19,10 +19,10 @@ pub struct Reading<'a> {
 }
 
 impl Reading<'_> {
-    ghost use Rattle.std.specs.Prelude.{◌+◌, ◌^◌, ◌≤◌, ◌<◌, ◌≡◌, length};
+    ghost use Rattle.std.specs.Prelude.{◌+◌, ◌-◌, ◌^◌, ◌≤◌, ◌<◌, ◌≡◌, length, IfSome, Ok};
     ghost use Rattle.fields.specs.Bits.{field_at, byte_len};
     ghost use Rattle.fields.specs.Layout.{rank_bits};
-    ghost use Rattle.file.specs.Reader.{frame_at, order_field_test, order_from, entry_test, entries_from, row_fields_test, bit_behind, row_bit, rows_from, end_test, body_test};
+    ghost use Rattle.file.specs.Reader.{frame_at, order_field_test, order_from, entry_test, low_at, entries_from, row_fields_test, bit_behind, row_bit, rows_from, end_test, body_test};
     ghost use Rattle.file.specs.Inner.{step};
     ghost use Rattle.links.specs.Inner.{Seen};
     ghost use Rattle.refusal.specs.Tests.{fine};
@@ -70,12 +70,12 @@ impl Reading<'_> {
         Ok(rank)
     }
 
-    // The same, both fields at once where the bytes are there; what is not legal is found again field by field.
-    pub fn entry(self, p: usize, low: usize) -> Result<usize, Refusal>
+    // Both fields at once: the rank of an entry at bit p that is legal, where four bytes are there.
+    pub fn quick(self, p: usize, low: usize) -> Option<usize>
         requires { p < 2 ^ 30 }
-        ensures { result
+        ensures { IfSome result (λ rank. Ok rank
             ≡ step (entry_test self.entry.bytes.now self.entry.n self.entry.k p low)
-            (field_at self.entry.bytes.now p rank_bits) }
+            (field_at self.entry.bytes.now p rank_bits)) }
     {
         let end = p / 8 + 4;
         // `get::both` makes this test too: with `both` here, where the entry's bytes are there, reading took twice as long.
@@ -84,20 +84,56 @@ impl Reading<'_> {
             let rank = both / widths::JOINS_VALUES;
             let joins = both % widths::JOINS_VALUES;
             if low <= rank && rank < self.k && joins < self.n {
-                return Ok(rank);
+                return Some(rank);
             }
         }
-        self.entry_fields(p, low)
+        None
     }
 
-    // The entries of a row, from bit p on.
+    // The same for any entry; what is not legal is found again field by field.
+    pub fn entry(self, p: usize, low: usize) -> Result<usize, Refusal>
+        requires { p < 2 ^ 30 }
+        ensures { result
+            ≡ step (entry_test self.entry.bytes.now self.entry.n self.entry.k p low)
+            (field_at self.entry.bytes.now p rank_bits) }
+    {
+        match self.quick(p, low) {
+            Some(rank) => Ok(rank),
+            None => self.entry_fields(p, low),
+        }
+    }
+
+    // The entries of a row, from bit p on. Nearly all are quick: the loop over them is faster without the way of the others.
     pub fn entries(self, p: usize, count: usize) -> Result<(), Refusal>
         requires { (p < 2 ^ 29) × (count ≤ 256) }
         ensures { result ≡ entries_from self.entry.bytes.now self.entry.n self.entry.k p 0 count }
     {
         let mut low: usize = 0;
         for i in 0..count {
-            low = self.entry(p + widths::ENTRY_BITS * i, low)? + 1;
+            let Some(rank) = self.quick(p + widths::ENTRY_BITS * i, low) else {
+                return self.entries_behind(p, i, count, low);
+            };
+            low = rank + 1;
+        }
+        Ok(())
+    }
+
+    // The entries of a row from entry i on; `first` is one above the rank before it.
+    #[inline(never)]
+    pub fn entries_behind(
+        self,
+        p: usize,
+        i: usize,
+        count: usize,
+        first: usize,
+    ) -> Result<(), Refusal>
+        requires { (p < 2 ^ 29) × (i ≤ count) × (count ≤ 256) × (first ≡ low_at self.bytes.now p i) }
+        ensures { result
+            ≡ entries_from self.entry.bytes.now self.entry.n self.entry.k p i (count - i) }
+    {
+        let mut low = first;
+        for j in i..count {
+            low = self.entry(p + widths::ENTRY_BITS * j, low)? + 1;
         }
         Ok(())
     }

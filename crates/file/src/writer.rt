@@ -5,7 +5,7 @@ ghost use Rattle.file.specs.Writer.{index_sizes, out_fits};
 
 use crate::rooms;
 use entry::Entry;
-use fields::put::Pen;
+use fields::put::Sheet;
 use fields::widths;
 use links::check_order;
 use refusal::sizes::sizes_fit;
@@ -81,10 +81,10 @@ impl Lent<'_> {
             ≡ file_of self.entry.n self.entry.w self.entry.k self.entry.order.now self.entry.labels.now
             self.entry.counts.now }
     {
-        let mut pen = Pen::new(out);
-        pen.put_header(self.n, self.k);
-        pen.put_order(self.order);
-        pen.put_rows(self.n, self.w, self.labels, self.counts);
-        pen.close();
+        let mut sheet = Sheet::new(out);
+        sheet.put_header(self.n, self.k);
+        sheet.put_order(self.order);
+        sheet.put_rows(self.n, self.w, self.labels, self.counts);
+        sheet.close();
     }
 }

@@ -100,7 +100,9 @@ pub fn faulty(
     !mirrored(starts, places, w, v, cursors)
 }
 
-// The lowest frame with a faulty list, or n where there is none. The scan ends as a whole at the first faulty link.
+// The lowest frame with a faulty list, or n where there is none. The scan ends as a whole at the first faulty link. Not inlined:
+// what the tests before it refuse should not take the stack of its cursors.
+#[inline(never)]
 pub fn first_faulty(n: usize, starts: &[u32], places: &[u32]) -> usize
     requires { Starts n starts.now places.now }
     ensures { result ≡ first (faulty_list n starts.now places.now) 0 n }

@@ -1,5 +1,5 @@
 -- The laws of the way from a file's bytes to its text: what each test that is passed, or refuses, makes of it.
-use Rattle.refusal.specs.Tests.{Verdict, fine}
+use Rattle.refusal.specs.Tests.{Verdict, fine, Refusal}
 use Rattle.std.specs.Prelude.{Ok, Err}
 use Rattle.std.specs.Result.{result_unwrap_or}
 use Prim.Native.Nat.{ℕ, ◌*◌, ◌≤◌, ◌<◌}
@@ -11,7 +11,6 @@ use lib.ListN.{length, take}
 use lib.Seq.{length-take-le}
 use borrow.Author.Tests.{le-leb, lt-leb}
 use Rattle.refusal.specs.Numbers.{number_of, SIZE}
-use Rattle.refusal.specs.declared.Refusal.{Refusal}
 use Rattle.refusal.proofs.Laws.{test_fine, test_refused, after_fine, after_refused}
 use Rattle.rows.specs.Rooms.{sound_row, check_rows}
 use Rattle.rows.specs.Spread.{spread_figure, spread_of, SpreadAnswer}

@@ -1,6 +1,6 @@
 -- What a listing prints: `refused` and the number where a test refuses, and nowhere else; the index with the spread that the
 -- spread question answers where none does.
-use Rattle.refusal.specs.Tests.{Verdict, fine}
+use Rattle.refusal.specs.Tests.{Verdict, fine, Refusal}
 use Rattle.std.specs.Prelude.{Ok, Err}
 use Prim.Native.Nat.{ℕ}
 use native.Mathlib.Omega.{arith}
@@ -9,7 +9,6 @@ use mathlib.Core.List.{List, ◌++◌}
 use lib.ListN.{length, get_or}
 use Rattle.basics.specs.Places.{sum}
 use Rattle.refusal.specs.Numbers.{number_of}
-use Rattle.refusal.specs.declared.Refusal.{Refusal}
 use Rattle.refusal.proofs.Laws.{then_fine, vcase}
 use Rattle.rows.specs.Spread.{spread_figure, spread_of}
 use Rattle.file.specs.Reader.{frames_of, stop_of, order_read, labels_read, counts_read}

@@ -11,11 +11,10 @@ use native.Mathlib.Omega.{arith}
 use borrow.Author.Tests.{eq-eqb, ne_eqb}
 use Rattle.basics.specs.Places.{first}
 use Rattle.basics.proofs.Laws.{by_cases, less_one, end_none, none_end}
-use Rattle.refusal.specs.Tests.{test, ◌then◌, refusal, tests_from, lowest_test, Verdict, fine}
+use Rattle.refusal.specs.Tests.{test, ◌then◌, refusal, tests_from, lowest_test, Verdict, fine, Refusal}
 use Rattle.refusal.specs.Told.{Told, gives, refuses, verdict_told}
 use Rattle.refusal.specs.Numbers.{number_of}
 use Rattle.refusal.specs.declared.Reason.{Reason}
-use Rattle.refusal.specs.declared.Refusal.{Refusal}
 use Rattle.refusal.proofs.NumberLaws.{some_number, numbers_apart}
 
 -- a test that holds is fine

@@ -2,9 +2,12 @@
 use Rattle.std.specs.Prelude.{ℕ, zero, suc, Bool, true, false, eqb, Result, Ok, Err}
 use Rattle.basics.specs.Places.{first}
 use Rattle.refusal.specs.declared.Reason.{Reason}
-use Rattle.refusal.specs.declared.Refusal.{Refusal}
+use Rattle.refusal.specs.declared.RefusedFor.{RefusedFor}
 
 infixr 20 ◌then◌
+abbrev pub Refusal : Type 0
+Refusal = RefusedFor Reason
+
 -- what a test, or several in a row, found: nothing, or the first refusal
 abbrev pub Verdict : Type 0
 Verdict = Result Unit Refusal
@@ -12,8 +15,8 @@ Verdict = Result Unit Refusal
 abbrev pub fine : Verdict
 fine = Ok tt
 
--- the refusal with this reason and place
-abbrev pub refusal : Reason → ℕ → Refusal
+-- the refusal with this reason, of whatever kind, and place
+abbrev pub refusal : {R : Type 0} → R → ℕ → RefusedFor R
 refusal reason place = record { reason = reason; place = place }
 
 -- fine where it holds, else refused with this reason and place

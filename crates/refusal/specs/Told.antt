@@ -2,8 +2,7 @@
 -- parameters. Every answer has one definition that gives this record for each of its cases.
 use Rattle.std.specs.Prelude.{ℕ, List, [], replicate, Ok, Err}
 use Rattle.refusal.specs.Numbers.{number_of}
-use Rattle.refusal.specs.Tests.{Verdict}
-use Rattle.refusal.specs.declared.Refusal.{Refusal}
+use Rattle.refusal.specs.Tests.{Refusal, Verdict}
 
 pub record Told : Type 0 where
   pub number : ℕ

@@ -34,18 +34,22 @@ impl Reason {
     pub fn at(self, place: usize) -> Refusal
         ensures { result ≡ refusal self place }
     {
-        Refusal {
+        RefusedFor {
             reason: self,
             place,
         }
     }
 }
 
+// A reason of any kind, a bare number too, and a place.
 #[derive(Clone, Copy, Debug, PartialEq, Eq)]
-pub struct Refusal {
-    pub reason: Reason,
+pub struct RefusedFor<R> {
+    pub reason: R,
     pub place: usize,
 }
+
+// What this library's calls refuse with.
+pub type Refusal = RefusedFor<Reason>;
 
 impl Refusal {
     // The paper's number.
@@ -62,11 +66,11 @@ impl fmt::Display for Refusal {
     }
 }
 
-// Refused with this reason and place.
-pub fn refused(reason: Reason, place: usize) -> Result<(), Refusal>
+// Refused with this reason, or number, and place.
+pub fn refused<R: Drop>(reason: R, place: usize) -> Result<(), RefusedFor<R>>
     ensures { result ≡ Err (refusal reason place) }
 {
-    Err(reason.at(place))
+    Err(RefusedFor { reason, place })
 }
 
 // Fine where the test holds, else refused with this reason and place.

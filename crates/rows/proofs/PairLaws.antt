@@ -10,8 +10,7 @@ use mathlib.Core.List.{List, []}
 use borrow.Author.Tests.{ltb-true, lt-ltb, le-ltb}
 use lib.ListN.{length, get_or}
 use Rattle.refusal.specs.Numbers.{FRAME, ROW}
-use Rattle.refusal.specs.Tests.{◌then◌, refusal, if_fine, Verdict, fine}
-use Rattle.refusal.specs.declared.Refusal.{Refusal}
+use Rattle.refusal.specs.Tests.{◌then◌, refusal, if_fine, Verdict, fine, Refusal}
 use Rattle.refusal.proofs.Laws.{test_fine, test_refused, test_held, then_fine, after_fine, after_refused}
 use Rattle.rows.specs.Inner.{Rooms, RowLies, Rises, RowOr, RowsOr}
 use Rattle.rows.specs.Rooms.{room_tests, frame_test, frame_tests, row_test, row_at, sound_row, check_row}

@@ -16,8 +16,7 @@ use Rattle.basics.proofs.Laws.{bcase, cond_true, both_true, both, not_of_true, n
 use Rattle.refusal.specs.Numbers.{SIZE, LENGTH, ROW}
 use Rattle.refusal.specs.Sizes.{sizes_fit}
 use Rattle.refusal.specs.Inner.{Sizes}
-use Rattle.refusal.specs.Tests.{test, refusal, fine, Verdict}
-use Rattle.refusal.specs.declared.Refusal.{Refusal}
+use Rattle.refusal.specs.Tests.{test, refusal, fine, Verdict, Refusal}
 use Rattle.refusal.proofs.Laws.{test_fine, test_refused, test_held, then_fine, after_fine, after_refused, lowest_fine, lowest_refused, lowest_none, none_lowest}
 use Rattle.refusal.proofs.SizeLaws.{sizes_fit_lem, sizes_held}
 use Rattle.rows.specs.Rooms.{total_of, rooms_fit, room_tests, rows_test, check_rows, part_of, row_at, sound_row, unsound, faulty_entry}

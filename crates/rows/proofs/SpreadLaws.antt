@@ -1,5 +1,5 @@
 -- The laws of the spread: in a row of rising ranks, rank 0 can only stand first.
-use Rattle.refusal.specs.Tests.{fine}
+use Rattle.refusal.specs.Tests.{fine, Refusal}
 use Rattle.std.specs.Prelude.{Ok, Err}
 use Prim.Native.Nat.{ℕ, zero, suc, ◌*◌, ◌<◌}
 use mathlib.Core.Path.{◌≡◌, refl, sym, ap}
@@ -12,7 +12,6 @@ use lib.ListN.{length, get_or}
 use lib.Dec.{eqb}
 use lib.Seq.{drop-cons}
 use Rattle.basics.proofs.Laws.{bcase}
-use Rattle.refusal.specs.declared.Refusal.{Refusal}
 use Rattle.refusal.proofs.Laws.{Named, named, gives_apart, refuses_apart, gives_refuses}
 use Rattle.entry.specs.Entry.{rank_of}
 use Rattle.rows.specs.Inner.{Rises, Rooms, front_joins}

@@ -5,10 +5,9 @@ use Prim.Native.Nat.{ℕ, ◌≤◌}
 use native.Mathlib.Omega.{arith}
 use mir.Val.{bool_byte}
 use mathlib.Core.Bool.{Bool, true, false, cond, ◌&&◌, true≢false}
-use Rattle.refusal.specs.Tests.{test, refusal}
+use Rattle.refusal.specs.Tests.{test, refusal, Refusal}
 use Rattle.refusal.specs.declared.Reason.{Reason}
 use Rattle.refusal.proofs.Laws.{fine_not_refused}
-use Rattle.refusal.specs.declared.Refusal.{Refusal}
 
 -- a test that is refused did not hold, and its refusal is the one named
 pub test_failed : (b : Bool) (reason : Reason) (place : ℕ) {r : Refusal} → test b reason place ≡ Err r

@@ -1,6 +1,6 @@
 -- The laws of the question within so many joins: what a turn of its walk leaves, that some meeting is within the limit exactly if
 -- the best one is, and what the answer says of the pair question's.
-use Rattle.refusal.specs.Tests.{fine}
+use Rattle.refusal.specs.Tests.{fine, Refusal}
 use Rattle.std.specs.Prelude.{Ok, Err, Some, None}
 use Prim.Native.Nat.{ℕ, ◌+◌, ◌-◌, ◌≤◌, ◌<◌, min}
 use mathlib.Core.Path.{◌≡◌, refl, sym, ap, ◌∙◌}
@@ -15,7 +15,6 @@ use lib.ListN.{length, get_or, drop}
 use lib.Seq.{drop-length}
 use lib.Dec.{leb}
 use Rattle.basics.proofs.Laws.{bcase, by_cases, cases, cond_true, cond_false, lt_or_ge, three_ways}
-use Rattle.refusal.specs.declared.Refusal.{Refusal}
 use Rattle.refusal.proofs.Laws.{Named, named, gives_apart, refuses_apart, gives_refuses}
 use Rattle.entry.specs.Entry.{rank_of, joins_of, rank_step}
 use Rattle.entry.proofs.Laws.{joins_small}

@@ -4,8 +4,7 @@ use Rattle.std.specs.Prelude.{ℕ, ◌+◌, ◌*◌, ◌≤◌, ◌<◌, ◌≡�
 use Rattle.std.specs.Borrow.{Bor}
 use Rattle.std.specs.Prelude.{Result, Ok, Err}
 use Rattle.refusal.specs.Inner.{Sizes}
-use Rattle.refusal.specs.Tests.{Verdict, fine}
-use Rattle.refusal.specs.declared.Refusal.{Refusal}
+use Rattle.refusal.specs.Tests.{Verdict, fine, Refusal}
 use Rattle.theory.specs.Rows.{Row}
 use Rattle.entry.specs.Entry.{rank_of, joins_of, rank_step}
 use Rattle.rows.specs.Laid.{labels_of, counts_of}

@@ -1,7 +1,6 @@
 -- The pair question: its tests, its answer, and the paper's numbers for each case of the answer.
-use Rattle.refusal.specs.declared.Refusal.{Refusal}
 use Rattle.std.specs.Prelude.{ℕ, List, [], ◌∷◌, Ok, Err, Some, None, Option, Result}
-use Rattle.refusal.specs.Tests.{◌then◌, Verdict}
+use Rattle.refusal.specs.Tests.{◌then◌, Verdict, Refusal}
 use Rattle.refusal.specs.Told.{Told, gives, refuses}
 use Rattle.theory.specs.Chains.{Count, joins, none}
 use Rattle.rows.specs.Rooms.{frame_test, frame_tests, row_test, row_at}

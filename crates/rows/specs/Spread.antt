@@ -1,6 +1,5 @@
 -- Spread: twice the largest joins among used entries of rank 0, or 0 if there is none.
-use Rattle.refusal.specs.declared.Refusal.{Refusal}
-use Rattle.refusal.specs.Tests.{Verdict}
+use Rattle.refusal.specs.Tests.{Verdict, Refusal}
 use Rattle.std.specs.Prelude.{ℕ, zero, suc, ◌*◌, max, cond, List, [], ◌∷◌, eqb, Ok, Err, Result}
 use Rattle.refusal.specs.Told.{Told, gives, refuses}
 use Rattle.entry.specs.Entry.{rank_of, joins_of}

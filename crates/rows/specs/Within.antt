@@ -1,5 +1,5 @@
 -- Within so many joins: yes exactly if the pair question has an answer and it is at most the limit.
-use Rattle.refusal.specs.declared.Refusal.{Refusal}
+use Rattle.refusal.specs.Tests.{Refusal}
 use Rattle.std.specs.Prelude.{ℕ, cond, List, [], ◌∷◌, leb, Ok, Err, Some, None, Result, Bool, true, false}
 use Rattle.refusal.specs.Told.{Told, gives, refuses}
 use Rattle.rows.specs.Pair.{pair_of, Answer}

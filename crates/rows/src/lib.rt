@@ -4,7 +4,7 @@
 
 mod asked;
 pub mod check;
-pub mod cut;
+mod cut;
 pub mod lookup;
 mod merge;
 pub mod pair;

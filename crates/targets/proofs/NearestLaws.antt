@@ -1,6 +1,6 @@
 -- The laws of the nearest target: the first place of the fewest joins as it is found record by record, that the asked frame's
 -- row noted by rank finds the pair question's answers.
-use Rattle.refusal.specs.Tests.{Verdict, fine}
+use Rattle.refusal.specs.Tests.{Verdict, fine, Refusal}
 use Rattle.std.specs.Prelude.{Ok, Err, Some, None}
 use Prim.Native.Nat.{ℕ, ◌+◌, ◌≤◌, ◌<◌, min}
 use mathlib.Core.Path.{◌≡◌, refl, sym, ap, subst, ◌∙◌}
@@ -13,7 +13,6 @@ use lib.ListN.{length, get_or, replicate, length-replicate}
 use lib.Dec.{eqb}
 use Rattle.basics.specs.Places.{first, least}
 use Rattle.basics.proofs.Laws.{cond_true, cond_false, first_is, least_le, least_ext, first_ext}
-use Rattle.refusal.specs.declared.Refusal.{Refusal}
 use Rattle.theory.specs.Rows.{Row, at, answer}
 use Rattle.entry.specs.Entry.{decode}
 use Rattle.rows.specs.Rooms.{part_of, row_at}

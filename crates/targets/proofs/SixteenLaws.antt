@@ -13,8 +13,7 @@ use lib.Dec.{ltb}
 use lib.Seq.{drop-cons}
 use Rattle.basics.specs.Places.{count, least, some, table, sum}
 use Rattle.basics.proofs.Laws.{bcase, lt_or_ge, cond_true, cond_false, at_set, count_none, count_hit, count_miss, count_most, count_ext, least_most, least_le, least_ge, least_found, length_table, get_d_table, is_table, table_ext, least_ext, some_one, some_none}
-use Rattle.refusal.specs.Tests.{Verdict, fine}
-use Rattle.refusal.specs.declared.Refusal.{Refusal}
+use Rattle.refusal.specs.Tests.{Verdict, fine, Refusal}
 use Rattle.theory.specs.Rows.{at, answer}
 use Rattle.entry.specs.Entry.{rank_of, decode}
 use Rattle.rows.specs.Rooms.{part_of, row_at}

@@ -11,8 +11,7 @@ use lib.Dec.{leb}
 use lib.Seq.{get_or-take, length-take-le}
 use Rattle.basics.proofs.Laws.{is_table, length_table}
 use Rattle.refusal.specs.Numbers.{SIZE, FRAME}
-use Rattle.refusal.specs.Tests.{test, ◌then◌, refusal, tests_from, Verdict, fine}
-use Rattle.refusal.specs.declared.Refusal.{Refusal}
+use Rattle.refusal.specs.Tests.{test, ◌then◌, refusal, tests_from, Verdict, fine, Refusal}
 use Rattle.refusal.proofs.Laws.{test_fine, test_refused, test_held, then_fine, after_fine, after_refused, tests_each}
 use Rattle.rows.specs.Inner.{Rooms}
 use Rattle.rows.specs.Rooms.{room_tests, frame_test, row_test, rows_test, sound_row, check_row}

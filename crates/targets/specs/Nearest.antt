@@ -1,9 +1,8 @@
 -- Nearest target: the place of the record with the fewest joins from the asked frame, the first such place on equal counts,
 -- or none.
-use Rattle.refusal.specs.declared.Refusal.{Refusal}
 use Rattle.std.specs.Prelude.{ℕ, cond, List, [], ◌∷◌, length, get_or, eqb, ltb, Ok, Err, Some, None, Option, Result}
 use Rattle.basics.specs.Places.{first}
-use Rattle.refusal.specs.Tests.{◌then◌, tests_from, Verdict}
+use Rattle.refusal.specs.Tests.{◌then◌, tests_from, Verdict, Refusal}
 use Rattle.refusal.specs.Told.{Told, gives, refuses}
 use Rattle.rows.specs.Rooms.{frame_test, row_test}
 use Rattle.targets.specs.Targets.{target_rooms, records_test, apart, joins_to, fewest_joins}

@@ -1,9 +1,8 @@
 -- The sixteen counts: at place i the frames whose nearest target is i joins away, place 15 taking 15 and more, frames without
 -- any target left out.
-use Rattle.refusal.specs.declared.Refusal.{Refusal}
 use Rattle.std.specs.Prelude.{ℕ, min, Bool, ◌&&◌, List, eqb, ltb, Ok, Err, Result}
 use Rattle.basics.specs.Places.{count, table}
-use Rattle.refusal.specs.Tests.{◌then◌, Verdict}
+use Rattle.refusal.specs.Tests.{◌then◌, Verdict, Refusal}
 use Rattle.refusal.specs.Told.{Told, gives, refuses}
 use Rattle.rows.specs.Rooms.{rows_test}
 use Rattle.targets.specs.Targets.{target_rooms, records_test, apart, fewest_joins}

@@ -1,6 +1,6 @@
 -- An unrefused build: the tests were passed, so the links are a block and the order holds each frame once; the rooms hold
 -- the rows of the rule at k, none over W long.
-use Rattle.refusal.specs.Tests.{Verdict, fine}
+use Rattle.refusal.specs.Tests.{Verdict, fine, Refusal}
 use Rattle.std.specs.Prelude.{Ok, Err}
 use Prim.Native.Nat.{ℕ, ◌≤◌, ◌<◌}
 use mathlib.Core.Path.{◌≡◌, refl, sym, ap, ◌∙◌}
@@ -8,7 +8,6 @@ use mathlib.Core.List.{List}
 use native.Mathlib.Omega.{arith}
 use lib.ListN.{length, get_or, replicate}
 use Rattle.basics.specs.Places.{sum}
-use Rattle.refusal.specs.declared.Refusal.{Refusal}
 use Rattle.theory.specs.Rows.{Row}
 use Rattle.theory.specs.Plain.{row_by}
 use Rattle.entry.specs.Entry.{decode}

@@ -1,5 +1,8 @@
 -- Any two outcomes allowed by a contract of `refusal` are equal.
 use mathlib.Core.Path.{sym, ◌∙◌}
+use denote.RattleType.{RattleType}
+use denote.Param.Laws.{Laws}
+use mir.Syntax.{Dict}
 use Rattle.refusal.proofs.Reason.at.Kinds as at-kinds
 use Rattle.refusal.proofs.Reason.at.Reads as at-reads
 use Rattle.refusal.proofs.Refusal.number.Kinds as number-kinds
@@ -27,8 +30,10 @@ number_same κs a r₁ r₂ s₁ s₂ p q = p ∙ sym q
 pub test_same : SameAnswer 0 test-kinds.ps test-kinds.r test-reads.Post
 test_same κs a r₁ r₂ s₁ s₂ p q = p ∙ sym q
 
-pub refused_same : SameAnswer 0 refused-kinds.ps refused-kinds.r refused-reads.Post
-refused_same κs a r₁ r₂ s₁ s₂ p q = p ∙ sym q
+-- a reason of whatever type
+pub refused_same : (T : RattleType) (laws : Laws T) (drop : Dict)
+    → SameAnswer 1 (refused-kinds.ps T laws) (refused-kinds.r T laws) (refused-reads.Post T laws drop)
+refused_same T laws drop κs a r₁ r₂ s₁ s₂ p q = p ∙ sym q
 
 pub frames_fit_same : SameAnswer 0 frames-fit-kinds.ps frames-fit-kinds.r frames-fit-reads.Post
 frames_fit_same κs a r₁ r₂ s₁ s₂ p q = p ∙ sym q

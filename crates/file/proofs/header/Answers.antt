@@ -5,7 +5,7 @@ use mathlib.Core.Path.{◌≡◌, ap, ap₂, ◌∙◌}
 use mathlib.Core.List.{List}
 use native.Mathlib.Omega.{arith}
 use Rattle.std.proofs.Common.{rules}
-use Rattle.refusal.specs.declared.Refusal.{Refusal}
+use Rattle.refusal.specs.Tests.{Refusal}
 use Rattle.file.specs.Reader.{frames_of, stop_of, header_test, header_of, opened_told, Opened, indexed}
 use Rattle.file.proofs.Heading.{read_said, opened_fine, opened_refused, at_version, at_stop}
 use Rattle.file.proofs.Steps.{step_stops, step_goes, test_stops, test_goes, went_on, stopped}

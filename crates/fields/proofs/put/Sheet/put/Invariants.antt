@@ -6,13 +6,13 @@ use mathlib.Core.List.{[], ◌∷◌}
 use Rattle.fields.specs.Bits.{num, field}
 use Rattle.fields.specs.Inner.{pen_bits, pen_num}
 use Rattle.fields.proofs.Byte.{BytesLeft}
-use Rattle.fields.proofs.put.Pen.put.Given as goal
+use Rattle.fields.proofs.put.Sheet.put.Given as goal
 
 abbrev pub invariant-loop-nb : goal.invariant-loop-nb
 invariant-loop-nb l = record {
   few : l.nb ≤ 23;
   same : l.self.out.ghost_name ≡ l.initial.self.out.ghost_name;
-  left : BytesLeft l.initial.self.out.now (num (pen_num l.initial.self) (field l.value l.width ∷ [])) (pen_bits l.initial.self + l.width) l.whole l.self.out.now l.at l.nb;
+  left : BytesLeft l.initial.self.out.now (num (pen_num l.initial.self.out.now l.initial.self.pen) (field l.value l.width ∷ [])) (pen_bits l.initial.self.pen + l.width) l.whole l.self.out.now l.at l.nb;
 }
 
 abbrev pub decreases-loop-nb : goal.decreases-loop-nb

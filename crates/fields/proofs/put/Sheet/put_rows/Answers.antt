@@ -1,6 +1,6 @@
 -- The goals that the search leaves.
 use Rattle.fields.proofs.Pen.{place_ready, place_step, places_end}
-use Rattle.fields.proofs.put.Pen.put_rows.Goals as goal
+use Rattle.fields.proofs.put.Sheet.put_rows.Goals as goal
 
 pub put_row-requires : goal.put_row-requires
 put_row-requires c = (place_ready _ c.loop-v.invariant c.loop-v-test.true, c.requires.1 c.loop-v.v c.loop-v-test.true)

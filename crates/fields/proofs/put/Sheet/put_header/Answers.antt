@@ -2,7 +2,7 @@
 use native.Mathlib.Omega.{arith}
 use Rattle.fields.specs.Layout.{header_fields}
 use Rattle.fields.proofs.Pen.{left_start, next_ready, next_step}
-use Rattle.fields.proofs.put.Pen.put_header.Goals as goal
+use Rattle.fields.proofs.put.Sheet.put_header.Goals as goal
 
 pub put-requires : goal.put-requires
 unfolding header_fields

@@ -1,7 +1,7 @@
 -- The goals that the search leaves.
 use native.Mathlib.Omega.{arith}
 use Rattle.fields.proofs.Pen.{place_ready, place_step, places_end}
-use Rattle.fields.proofs.put.Pen.put_order.Goals as goal
+use Rattle.fields.proofs.put.Sheet.put_order.Goals as goal
 
 pub put-requires : goal.put-requires
 put-requires c = (place_ready _ c.loop-frame.invariant c.loop-frame-test.true, omega arith)

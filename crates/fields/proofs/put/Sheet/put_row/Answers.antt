@@ -8,11 +8,11 @@ use Rattle.rows.proofs.Laws.{cut}
 use Rattle.fields.specs.Bits.{field}
 use Rattle.fields.specs.Layout.{row_fields, entries_fields}
 use Rattle.fields.specs.Inner.{Ready, Left, Put}
-use Rattle.fields.specs.declared.put.Pen.{Pen}
+use Rattle.fields.specs.declared.put.Sheet.{Sheet}
 use Rattle.fields.proofs.Pen.{left_start, left_step, next_ready, next_step}
-use Rattle.fields.proofs.put.Pen.put_row.Goals as goal
+use Rattle.fields.proofs.put.Sheet.put_row.Goals as goal
 
-module _ {p : Pen} (w : ℕ) (labels counts : List ℕ) (v : ℕ) (r : Ready p (row_fields w labels counts v)) where
+module _ {p : Sheet} (w : ℕ) (labels counts : List ℕ) (v : ℕ) (r : Ready p (row_fields w labels counts v)) where
   abbrev count : ℕ
   count = get_or counts v 0
 
@@ -20,7 +20,7 @@ module _ {p : Pen} (w : ℕ) (labels counts : List ℕ) (v : ℕ) (r : Ready p (
   unfolding row_fields
   begun = rw (cut w labels counts v) (left_start r)
 
-  counted : {p1 : Pen} → Put p (field count 9 ∷ []) p1 →
+  counted : {p1 : Sheet} → Put p (field count 9 ∷ []) p1 →
       Left p (row_fields w labels counts v) p1 (entries_fields (take (v * w + count - v * w) (drop (v * w) labels)))
   counted u = next_step begun u
 

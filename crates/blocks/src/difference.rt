@@ -1,9 +1,7 @@
-// What ends a run before its end.
+// What ends a run before its end: the first thing that is not as it has to be.
 use refusal::Refusal;
-use std::alloc::AllocError;
 use std::fmt;
 
-// The first thing that is not as it has to be.
 #[derive(Clone, Copy, Debug)]
 pub enum Difference {
     // The order by degree was refused, for which nothing in a sound block asks.
@@ -29,34 +27,13 @@ pub enum Difference {
     },
 }
 
-#[derive(Debug, Drop)]
-pub enum Fault {
-    Differs(Difference),
-    Memory(AllocError),
-}
-
 // Whether a run came to its end; a difference is printed.
-pub fn report(rt: &impl Print, outcome: Result<(), Fault>) -> Result<bool, AllocError> {
-    match outcome {
-        Ok(()) => Ok(true),
-        Err(Fault::Differs(difference)) => {
-            let _ = println!(rt; "{difference}");
-            Ok(false)
-        }
-        Err(Fault::Memory(error)) => Err(error),
+pub fn report(rt: &impl Print, outcome: Result<(), Difference>) -> bool {
+    if let Err(difference) = outcome {
+        let _ = println!(rt; "{difference}");
+        return false;
     }
-}
-
-impl From<Difference> for Fault {
-    fn from(difference: Difference) -> Self {
-        Fault::Differs(difference)
-    }
-}
-
-impl From<AllocError> for Fault {
-    fn from(error: AllocError) -> Self {
-        Fault::Memory(error)
-    }
+    true
 }
 
 // The entries of a build, or its refusal.

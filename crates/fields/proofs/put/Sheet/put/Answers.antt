@@ -6,26 +6,26 @@ use native.Mathlib.Omega.{arith}
 use native.Mathlib.Nat.{lt_of_lt_of_le}
 use lib.Pow.{pow_mono, shl_exact}
 use Rattle.std.proofs.lemmas.Nat.{one_shl, and_mask}
-use Rattle.fields.specs.declared.put.Pen.{Pen}
+use Rattle.fields.specs.declared.put.Sheet.{Sheet}
 use Rattle.fields.specs.Bits.{bit_len, num, field}
 use Rattle.fields.specs.Inner.{Ready}
 use Rattle.fields.proofs.Byte.{byte_step, whole_lt, byte_none, byte_end}
-use Rattle.fields.proofs.put.Pen.put.Goals as goal
+use Rattle.fields.proofs.put.Sheet.put.Goals as goal
 
 -- a field is its width long, and alone its value
 alone : (value width : ℕ) → bit_len (field value width ∷ []) ≡ width
 unfolding bit_len
 alone value width = omega arith
 
-module _ {p : Pen} {value width : ℕ} (r : Ready p (field value width ∷ [])) (narrow : width ≤ 16) where
-  is_whole : p.acc * 2 ^ width % 2 ^ 64 + value ≡ p.acc * 2 ^ width + num 0 (field value width ∷ [])
+module _ {p : Sheet} {value width : ℕ} (r : Ready p (field value width ∷ [])) (narrow : width ≤ 16) where
+  is_whole : p.pen.acc * 2 ^ width % 2 ^ 64 + value ≡ p.pen.acc * 2 ^ width + num 0 (field value width ∷ [])
   unfolding num
-  is_whole = omega (arith, shl_exact p.nb width 64 p.below (omega (arith, p.small)))
+  is_whole = omega (arith, shl_exact p.pen.nb width 64 p.below (omega (arith, p.small)))
 
-  whole-fits : p.acc * 2 ^ width % 2 ^ 64 + value < 2 ^ 64
+  whole-fits : p.pen.acc * 2 ^ width % 2 ^ 64 + value < 2 ^ 64
   whole-fits =
       subst (λ (y : ℕ). y < 2 ^ 64) (sym is_whole)
-      (lt_of_lt_of_le (whole_lt r width (alone value width)) (pow_mono {i = p.nb + width} {j = 64} (omega (arith, p.small))))
+      (lt_of_lt_of_le (whole_lt r width (alone value width)) (pow_mono {i = p.pen.nb + width} {j = 64} (omega (arith, p.small))))
 
 pub overflow_add-whole : goal.overflow_add-whole
 overflow_add-whole c = record { fits = whole-fits c.requires.0 c.requires.1 }
