@@ -37,12 +37,11 @@ gather_done s p w {at} {sum} there g h =
     ap (λ (x : ℕ). x / 2 ^ (8 * end - (p + w)) % 2 ^ w) f
     ∙ gathered s end m p w there (omega arith) (omega arith)
 
--- 24 bits out of four bytes
-pub four_bytes : (s : List ℕ) (p : ℕ) → Bytes s → p / 8 + 4 ≤ length s
-    → (get_or s (p / 8) 0 * 16777216 + get_or s (p / 8 + 1) 0 * 65536 + get_or s (p / 8 + 2) 0 * 256 + get_or s (p / 8 + 3) 0)
-    / 2 ^ (8 - p % 8) % 16777216 ≡ field_at s p 24
-four_bytes s p b h =
-    let a : ℕ = p / 8 in
+-- a field out of four bytes
+pub four_bytes : (s : List ℕ) (a past w : ℕ) → Bytes s → past + w ≤ 32 → a + 4 ≤ length s
+    → (get_or s a 0 * 16777216 + get_or s (a + 1) 0 * 65536 + get_or s (a + 2) 0 * 256 + get_or s (a + 3) 0)
+    / 2 ^ (32 - past - w) % 2 ^ w ≡ field_at s (8 * a + past) w
+four_bytes s a past w b l h =
     let x : ℕ = get_or s a 0 * 16777216 + get_or s (a + 1) 0 * 65536 + get_or s (a + 2) 0 * 256 + get_or s (a + 3) 0 in
     let one : 0 * 256 + get_or s a 0 ≡ up_to s (8 * (a + 1)) % 2 ^ 8 =
     gather_step s a (a + 1) 0 0 b (omega arith) (omega arith) (sym (mod-one (up_to s (8 * a)))) in
@@ -53,5 +52,5 @@ four_bytes s p b h =
     let four : (((0 * 256 + get_or s a 0) * 256 + get_or s (a + 1) 0) * 256 + get_or s (a + 2) 0) * 256 + get_or s (a + 3) 0
     ≡ up_to s (8 * (a + 4)) % 2 ^ 32 = gather_step s (a + 3) (a + 4) 24 _ b (omega arith) (omega arith) three in
     let all : x ≡ up_to s (8 * (a + 4)) % 2 ^ 32 = omega arith in
-    let rest : 8 - p % 8 ≡ 8 * (a + 4) - (p + 24) = omega arith in
-    ap₂ (λ (y t : ℕ). y / 2 ^ t % 2 ^ 24) all rest ∙ gathered s (a + 4) 32 p 24 h (omega arith) (omega arith)
+    let rest : 32 - past - w ≡ 8 * (a + 4) - (8 * a + past + w) = omega arith in
+    ap₂ (λ (y t : ℕ). y / 2 ^ t % 2 ^ w) all rest ∙ gathered s (a + 4) 32 (8 * a + past) w h (omega arith) (omega arith)

@@ -44,6 +44,8 @@ pub const EACH_FRAME_BITS: usize = FRAME_BITS + COUNT_BITS;
 // What an entry takes.
 pub const ENTRY_BITS: usize = RANK_BITS + JOINS_BITS;
 
+pub const ENTRY_BYTES: usize = ENTRY_BITS / 8;
+
 // How many values the joins have, and an entry: 2 to the power of their widths.
 pub const JOINS_VALUES: usize = 1 << JOINS_BITS;
 

@@ -1,10 +1,12 @@
 -- The laws of the reader's tests, one field after another: where a test stops, where it goes on, where it ends.
 use Rattle.std.specs.Prelude.{Err}
 use Prim.Native.Nat.{ℕ, ◌+◌, ◌*◌, ◌≤◌, ◌<◌}
-use mathlib.Core.Path.{◌≡◌, refl, sym, ap, ◌∙◌}
+use mathlib.Core.Path.{◌≡◌, refl, sym, ap, ap₂, ◌∙◌}
 use mathlib.Core.Bool.{Bool, true, false, not, ◌&&◌, ◌||◌}
 use mathlib.Core.List.{List}
 use native.Mathlib.Omega.{arith}
+use native.Mathlib.Nat.{sub-zero}
+use native.Mathlib.Numerals.{add-one}
 use lib.ListN.{length}
 use lib.Dec.{leb, ltb}
 use borrow.Author.Tests.{le-leb, lt-leb, lt-ltb, leb-true, eq-eqb, ne_eqb, not-true}
@@ -12,11 +14,12 @@ use Rattle.basics.specs.Places.{stands}
 use Rattle.basics.proofs.Laws.{both_true, not_of_false}
 use Rattle.refusal.specs.Numbers.{ROOM, FIELD, LONG}
 use Rattle.refusal.specs.Tests.{◌then◌, refusal, test, Verdict, fine, Refusal}
-use Rattle.refusal.proofs.Laws.{test_fine, test_refused, test_held, then_fine, after_fine, after_refused}
+use Rattle.refusal.proofs.Laws.{test_fine, test_refused, test_held, then_fine, after_fine, after_refused, tests_on}
 use Rattle.links.specs.Order.{faulty_rank}
 use Rattle.links.proofs.Order.{rank_sound, sound_inside}
 use Rattle.fields.specs.Bits.{field_at, byte_len, pad_len}
-use Rattle.file.specs.Reader.{short_test, field_test, frame_at, order_field_test, order_from, entry_test, entries_from, row_fields_test, row_bit, rows_from, end_test, body_test}
+use Rattle.file.specs.Reader.{short_test, field_test, frame_at, order_field_test, order_from, entry_test, low_at, entries_from, row_fields_test, row_bit, rows_from, end_test, body_test}
+use Rattle.file.specs.Inner.{Rises}
 use Rattle.file.proofs.Steps.{field_fine, field_more, field_there}
 
 -- ---- the order
@@ -65,6 +68,25 @@ module _ (s : List ℕ) (n k p low : ℕ) where
   pub entry_legal : short_test s p 12 ≡ fine → low ≤ field_at s p 12 → field_at s p 12 < k
       → short_test s (p + 12) 12 ≡ fine → field_at s (p + 12) 12 < n → entry_test s n k p low ≡ fine
   entry_legal e h g j l = entry_left e refl g ∙ after_fine _ (test_fine FIELD p (le-leb _ _ h)) ∙ field_fine s _ 12 j (lt-ltb _ _ l)
+
+-- ---- entries seen at once
+
+module _ (s : List ℕ) (n p count : ℕ) where
+  pub rises_none : Rises s n p count 0 0
+  unfolding low_at
+  rises_none = record { within = omega arith; lowest = refl; left = λ k low. ap (entries_from s n k p 0) (sub-zero count) }
+
+  -- one more, at the bit q of entry `seen`
+  pub rises_more : {seen low q rank : ℕ} → Rises s n p count seen low → seen < count → q ≡ p + 24 * seen → rank ≡ field_at s q 12 → low ≤ rank
+      → ((k : ℕ) → rank < k → entry_test s n k q low ≡ fine) → Rises s n p count (seen + 1) (rank + 1)
+  unfolding low_at
+  rises_more {seen} {low} {q} {rank} r more stands is rises legal =
+      record {
+        within = omega arith;
+        lowest = ap (λ (x : ℕ). x + 1) is ∙ ap (λ (x : ℕ). field_at s x 12 + 1) stands ∙ ap (low_at s p) (sym (add-one seen));
+        left = λ k high.
+            tests_on _ seen count more (ap₂ (entry_test s n k) (sym stands) (sym r.lowest) ∙ legal k (omega arith)) ∙ r.left k (omega arith);
+      }
 
 -- ---- one row
 

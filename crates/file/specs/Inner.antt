@@ -1,13 +1,13 @@
--- What the inner functions of the file ask of each other and promise: one step of the reader, what the storing pass asks of
--- a file whose tests are fine and leaves in a room, and an index that the writer's tests let through.
+-- What the inner functions of the file ask of each other and promise: one step of the reader, entries seen at once, what the
+-- storing pass asks of a file whose tests are fine and leaves in a room, and an index that the writer's tests let through.
 use Rattle.refusal.specs.Tests.{Verdict, fine, Refusal}
-use Rattle.std.specs.Prelude.{ℕ, ◌+◌, ◌*◌, ◌^◌, ◌≤◌, ◌<◌, ◌≡◌, List, length, Ok, Err, Result}
+use Rattle.std.specs.Prelude.{ℕ, ◌+◌, ◌-◌, ◌*◌, ◌^◌, ◌≤◌, ◌<◌, ◌≡◌, List, length, Ok, Err, Result}
 use Rattle.links.specs.Order.{order_test}
 use Rattle.rows.specs.Inner.{Rooms}
 use Rattle.rows.specs.Rooms.{rows_test}
 use Rattle.fields.specs.Bits.{byte_len}
 use Rattle.fields.specs.Layout.{entry_bits, order_bit, entry_bit}
-use Rattle.file.specs.Reader.{count_at, row_bit}
+use Rattle.file.specs.Reader.{low_at, entries_from, count_at, row_bit}
 
 -- a number to go on with, or the refusal
 abbrev pub Step : Type 0
@@ -19,6 +19,15 @@ Step = Result ℕ Refusal
 unfoldable pub step : Verdict → ℕ → Step
 step (Ok _) x = Ok x
 step (Err r) x = Err r
+
+-- ---- a row's entries
+
+-- of `count` entries from bit p on the first `seen` have rising ranks and joins below n, and `low` is one above the last one's
+-- rank: for every k that is at least that they are legal, so that those behind them give what all of them give
+pub record Rises (s : List ℕ) (n p count seen low : ℕ) : Type 0 where
+  pub within : seen ≤ count
+  pub lowest : low ≡ low_at s p seen
+  pub left : (k : ℕ) → low ≤ k → entries_from s n k p seen (count - seen) ≡ entries_from s n k p 0 count
 
 -- ---- the rooms filled
 

@@ -1,14 +1,15 @@
 // The tests on the fields behind the header, in bit order. Nothing is stored here but which frames the order has had.
-ghost use Rattle.std.specs.Prelude.{◌≤◌, ◌≡◌};
+ghost use Rattle.std.specs.Prelude.{◌+◌, ◌*◌, ◌/◌, ◌^◌, ◌≤◌, ◌<◌, ◌≡◌, length};
 ghost use Rattle.file.specs.Reader.{frames_of, stop_of, read_test, opened};
+ghost use Rattle.file.specs.Inner.{Rises};
 
-use crate::step::field;
+use crate::step::{field, field_in_four};
 use crate::{Index, rooms};
 use fields::{get, widths};
 use refusal::sizes::width_fits;
 use refusal::{Reason, Refusal, test};
 
-// A file as it is tested: its bytes, the frames and the stop that its header gives, and the width of the call.
+// A file as it is tested: its bytes, which have a header, the frames and the stop that this gives, and the width of the call.
 #[derive(Clone, Copy)]
 pub struct Reading<'a> {
     bytes: &'a [u8],
@@ -16,10 +17,11 @@ pub struct Reading<'a> {
     w: usize,
     k: usize,
     ghost few: { n ≤ 4096 },
+    ghost long: { 4 ≤ length bytes.now },
 }
 
 impl Reading<'_> {
-    ghost use Rattle.std.specs.Prelude.{◌+◌, ◌-◌, ◌^◌, ◌≤◌, ◌<◌, ◌≡◌, length, IfSome, Ok};
+    ghost use Rattle.std.specs.Prelude.{◌+◌, ◌-◌, ◌^◌, ◌≤◌, ◌<◌, ◌≡◌, length};
     ghost use Rattle.fields.specs.Bits.{field_at, byte_len};
     ghost use Rattle.fields.specs.Layout.{rank_bits};
     ghost use Rattle.file.specs.Reader.{frame_at, order_field_test, order_from, entry_test, low_at, entries_from, row_fields_test, bit_behind, row_bit, rows_from, end_test, body_test};
@@ -35,7 +37,7 @@ impl Reading<'_> {
             (frame_at self.entry.bytes.now) seen.new (r + 1) }
     {
         let p = widths::HEADER_BITS + widths::FRAME_BITS * r;
-        let frame = field(self.bytes, p, widths::FRAME_BITS, self.n)?;
+        let frame = field_in_four(self.bytes, p, widths::FRAME_BITS, self.n)?;
         test(!seen[frame], Reason::Field, p)?;
         seen[frame] = true;
         Ok(())
@@ -70,55 +72,45 @@ impl Reading<'_> {
         Ok(rank)
     }
 
-    // Both fields at once: the rank of an entry at bit p that is legal, where four bytes are there.
-    pub fn quick(self, p: usize, low: usize) -> Option<usize>
-        requires { p < 2 ^ 30 }
-        ensures { IfSome result (λ rank. Ok rank
-            ≡ step (entry_test self.entry.bytes.now self.entry.n self.entry.k p low)
-            (field_at self.entry.bytes.now p rank_bits)) }
-    {
-        let end = p / 8 + 4;
-        // `get::both` makes this test too: with `both` here, where the entry's bytes are there, reading took twice as long.
-        if end <= self.bytes.len() {
-            let both = get::four(self.bytes, p);
-            let rank = both / widths::JOINS_VALUES;
-            let joins = both % widths::JOINS_VALUES;
-            if low <= rank && rank < self.k && joins < self.n {
-                return Some(rank);
-            }
-        }
-        None
-    }
-
-    // The same for any entry; what is not legal is found again field by field.
+    // The same, both fields at once where the bytes are there; what is not legal is found again field by field.
     pub fn entry(self, p: usize, low: usize) -> Result<usize, Refusal>
         requires { p < 2 ^ 30 }
         ensures { result
             ≡ step (entry_test self.entry.bytes.now self.entry.n self.entry.k p low)
             (field_at self.entry.bytes.now p rank_bits) }
     {
-        match self.quick(p, low) {
-            Some(rank) => Ok(rank),
-            None => self.entry_fields(p, low),
+        let end = p / 8 + 4;
+        if end <= self.bytes.len() {
+            let both = get::four(self.bytes, p);
+            let rank = both / widths::JOINS_VALUES;
+            let joins = both % widths::JOINS_VALUES;
+            if low <= rank && rank < self.k && joins < self.n {
+                return Ok(rank);
+            }
         }
+        self.entry_fields(p, low)
     }
 
-    // The entries of a row, from bit p on. Nearly all are quick: the loop over them is faster without the way of the others.
+    // The entries of a row, from bit p on: in one go where it claims at most k of them and four bytes are there for each, then one by
+    // one from the first that is not seen to be legal; where a rank of k or more was passed over, all of them one by one.
     pub fn entries(self, p: usize, count: usize) -> Result<(), Refusal>
         requires { (p < 2 ^ 29) × (count ≤ 256) }
         ensures { result ≡ entries_from self.entry.bytes.now self.entry.n self.entry.k p 0 count }
     {
-        let mut low: usize = 0;
-        for i in 0..count {
-            let Some(rank) = self.quick(p + widths::ENTRY_BITS * i, low) else {
-                return self.entries_behind(p, i, count, low);
-            };
-            low = rank + 1;
+        if self.k < count || self.bytes.len() <= p / 8 + widths::ENTRY_BYTES * count {
+            return self.entries_behind(p, 0, count, 0);
+        }
+        let (i, low) = rising(self.bytes, self.n, p, count);
+        if self.k < low {
+            return self.entries_behind(p, 0, count, 0);
+        }
+        if i < count {
+            return self.entries_behind(p, i, count, low);
         }
         Ok(())
     }
 
-    // The entries of a row from entry i on; `first` is one above the rank before it.
+    // The entries of a row from entry i on, one by one; `first` is one above the rank before it.
     #[inline(never)]
     pub fn entries_behind(
         self,
@@ -145,7 +137,7 @@ impl Reading<'_> {
             ≡ step (row_fields_test self.entry.bytes.now self.entry.n self.entry.w self.entry.k v p)
             (bit_behind self.entry.bytes.now p) }
     {
-        let count = field(self.bytes, p, widths::COUNT_BITS, widths::LEGAL_COUNTS)?;
+        let count = field_in_four(self.bytes, p, widths::COUNT_BITS, widths::LEGAL_COUNTS)?;
         test(count <= self.w, Reason::Room, v)?;
         let bit = p + widths::COUNT_BITS;
         self.entries(bit, count)?;
@@ -184,6 +176,33 @@ impl Reading<'_> {
         self.order()?;
         self.end(self.rows()?)
     }
+}
+
+// How many of `count` entries from bit p on, counted from the first, have rising ranks and joins below n, and one above the last
+// one's rank: that is the highest, and held against k by who calls. Entries are whole bytes apart, so that each begins as far into
+// its byte as the first.
+#[inline(never)]
+pub fn rising(bytes: &[u8], n: usize, p: usize, count: usize) -> (usize, usize)
+    requires { (p < 2 ^ 29) × (count ≤ 256) × (p / 8 + 3 * count < length bytes.now) }
+    ensures { Rises bytes.now n p count result.0 result.1 }
+{
+    let at = p / 8;
+    let past = p % 8;
+    let mut low: usize = 0;
+    for i in 0..count {
+        let both = get::four_from(
+            bytes,
+            at + widths::ENTRY_BYTES * i,
+            past,
+            widths::ENTRY_BITS,
+        );
+        let rank = both / widths::JOINS_VALUES;
+        if rank < low || n <= both % widths::JOINS_VALUES {
+            return (i, low);
+        }
+        low = rank + 1;
+    }
+    (count, low)
 }
 
 // The whole file against a width and the lengths of three rooms: n and k, or the refusal.

@@ -1,5 +1,5 @@
 // One field of the reader: its value, or the refusal that ends the reading.
-ghost use Rattle.std.specs.Prelude.{◌≡◌, ltb};
+ghost use Rattle.std.specs.Prelude.{◌≤◌, ◌≡◌, length, ltb};
 ghost use Rattle.fields.specs.Bits.{field_at};
 ghost use Rattle.fields.specs.Inner.{Near};
 ghost use Rattle.file.specs.Reader.{short_test, field_test};
@@ -27,6 +27,21 @@ pub fn field(bytes: &[u8], p: usize, width: usize, bound: usize) -> Result<usize
         (field_at bytes.now p width) }
 {
     let found = value(bytes, p, width)?;
+    test(found < bound, Reason::Field, p)?;
+    Ok(found)
+}
+
+// The same, out of four bytes at once: for the order's fields and the counts.
+pub fn field_in_four(bytes: &[u8], p: usize, width: usize, bound: usize) -> Result<usize, Refusal>
+    requires { Near p width × (4 ≤ length bytes.now) }
+    ensures { result
+        ≡ step
+        (field_test bytes.now p width (ltb (field_at bytes.now p width) bound))
+        (field_at bytes.now p width) }
+{
+    let end = (p + width + 7) / 8;
+    test(end <= bytes.len(), Reason::Short, p)?;
+    let found = get::in_four(bytes, p, width);
     test(found < bound, Reason::Field, p)?;
     Ok(found)
 }

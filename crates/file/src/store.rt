@@ -15,7 +15,7 @@ pub fn order(bytes: &[u8], order: &mut [u32])
     ensures { order.new ≡ order_read bytes.now (length order.old) }
 {
     for (r, place) in order.iter_mut().enumerate() {
-        *place = get::get(
+        *place = get::in_four(
             bytes,
             widths::HEADER_BITS + widths::FRAME_BITS * r,
             widths::FRAME_BITS,
@@ -32,13 +32,38 @@ pub fn entry(bytes: &[u8], p: usize) -> Entry
     entry_of(both / widths::JOINS_VALUES, both % widths::JOINS_VALUES)
 }
 
-// Entries from bit p on, one for each of these places.
-pub fn entries(bytes: &[u8], p: usize, places: &mut [Entry])
+// The entry that begins `past` bits into byte `at`, where four bytes from that one on are there.
+pub fn entry_from(bytes: &[u8], at: usize, past: usize) -> Entry
+    requires { (past < 8) × (at + 4 ≤ length bytes.now) }
+    ensures { result ≡ entry_at bytes.now (8 * at + past) }
+{
+    let both = get::four_from(bytes, at, past, widths::ENTRY_BITS);
+    entry_of(both / widths::JOINS_VALUES, both % widths::JOINS_VALUES)
+}
+
+// Entries from bit p on, one for each of these places, one by one.
+#[inline(never)]
+pub fn entries_singly(bytes: &[u8], p: usize, places: &mut [Entry])
     requires { EntriesThere bytes.now p (length places.old) }
     ensures { places.new ≡ table (length places.old) (λ i. entry_at bytes.now (p + entry_bits * i)) }
 {
     for (i, place) in places.iter_mut().enumerate() {
         *place = entry(bytes, p + widths::ENTRY_BITS * i);
+    }
+}
+
+// The same, in one go where each has four bytes, as in all rows but one that the file ends with.
+pub fn entries(bytes: &[u8], p: usize, places: &mut [Entry])
+    requires { EntriesThere bytes.now p (length places.old) }
+    ensures { places.new ≡ table (length places.old) (λ i. entry_at bytes.now (p + entry_bits * i)) }
+{
+    let at = p / 8;
+    let past = p % 8;
+    if bytes.len() <= at + widths::ENTRY_BYTES * places.len() {
+        return entries_singly(bytes, p, places);
+    }
+    for (i, place) in places.iter_mut().enumerate() {
+        *place = entry_from(bytes, at + widths::ENTRY_BYTES * i, past);
     }
 }
 
@@ -60,7 +85,7 @@ pub fn rows(bytes: &[u8], w: usize, labels: &mut [Entry], counts: &mut [u32])
 {
     let mut p = widths::HEADER_BITS + widths::FRAME_BITS * counts.len();
     for (v, place) in counts.iter_mut().enumerate() {
-        let count = get::get(bytes, p, widths::COUNT_BITS);
+        let count = get::in_four(bytes, p, widths::COUNT_BITS);
         *place = count as u32;
         row(bytes, p, count, &mut labels[v * w..(v + 1) * w]);
         p += widths::COUNT_BITS + widths::ENTRY_BITS * count;

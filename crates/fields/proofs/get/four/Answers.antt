@@ -1,7 +1,9 @@
--- The four bytes are the last bits of the bytes up to there; the field is cut out of them.
+-- Bit p lies p % 8 bits into byte p / 8.
+use Prim.Native.Nat.{ℕ}
+use mathlib.Core.Path.{ap, ◌∙◌}
 use native.Mathlib.Omega.{arith}
-use Rattle.fields.proofs.Gather.{four_bytes}
+use Rattle.fields.specs.Bits.{field_at}
 use Rattle.fields.proofs.get.four.Goals as goal
 
 pub returns : goal.returns
-returns c = rw c.from_be_bytes-sum.ensures (four_bytes _ c.args.p (λ i. omega (arith, c.type_inv.bytes i)) c.requires.1)
+returns c = c.four_from.ensures ∙ ap (λ (p : ℕ). field_at c.args.bytes.now p 24) (omega arith)

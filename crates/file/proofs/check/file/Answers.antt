@@ -43,7 +43,7 @@ returns-in_err-test-2 c =
 pub invariant_of-reading : goal.invariant_of-reading
 unfolding header_of
 invariant_of-reading c =
-    let (e, p, q) = index_is _ _ _ (sym c.in_ok-index.was ∙ c.header.ensures.given) in omega (arith, frames_most c.args.bytes.now)
+    let (e, p, q) = index_is _ _ _ (sym c.in_ok-index.was ∙ c.header.ensures.given) in omega (arith, frames_most c.args.bytes.now, (headed _ e).long)
 
 pub body-requires : goal.body-requires
 unfolding header_of

@@ -7,16 +7,16 @@ use Rattle.file.proofs.Stores.{before_more, before_all}
 use Rattle.fields.proofs.Bits.{field_lt}
 use Rattle.file.proofs.store.order.Goals as goal
 
-pub get-requires : goal.get-requires
+pub in_four-requires : goal.in_four-requires
 unfolding byte_len
-get-requires c = (record { narrow = omega arith; near = omega (arith, c.requires.most) }, omega (arith, c.requires.there))
+in_four-requires c = (record { narrow = omega arith; near = omega (arith, c.requires.most) }, omega (arith, c.requires.there), omega (arith, c.requires.there))
 
 pub overflow_cast-place : goal.overflow_cast-place
-overflow_cast-place c = omega (arith, c.get.ensures, field_lt c.args.bytes.now (32 + 12 * c.loop-r.r) 12)
+overflow_cast-place c = omega (arith, c.in_four.ensures, field_lt c.args.bytes.now (32 + 12 * c.loop-r.r) 12)
 
 pub loop-r-preserved : goal.loop-r-preserved
 unfolding frame_at
-loop-r-preserved c = before_more c.loop-r.invariant (omega arith) c.get.ensures
+loop-r-preserved c = before_more c.loop-r.invariant (omega arith) c.in_four.ensures
 
 pub returns : goal.returns
 unfolding order_read

@@ -17,28 +17,28 @@ pub loop-v-init : goal.loop-v-init
 unfolding row_bit
 loop-v-init c = record { bit = refl; labelled = record { holds = λ i h. absurd (omega arith) }; counted = before_none }
 
-pub get-count-requires : goal.get-count-requires
-unfolding byte_len
-get-count-requires c = let row = next_row c.requires c.loop-v.invariant.bit (omega arith) refl in
-    (record { narrow = omega arith; near = omega (arith, row.near) }, omega (arith, row.there))
+pub in_four-count-requires : goal.in_four-count-requires
+unfolding byte_len row_bit
+in_four-count-requires c = let row = next_row c.requires c.loop-v.invariant.bit (omega arith) refl in
+    (record { narrow = omega arith; near = omega (arith, row.near) }, omega (arith, row.there), omega (arith, c.requires.there 0 (omega arith)))
 
 pub overflow_cast-place : goal.overflow_cast-place
-overflow_cast-place c = omega (arith, c.get-count.ensures, field_lt c.args.bytes.now c.loop-v.p 9)
+overflow_cast-place c = omega (arith, c.in_four-count.ensures, field_lt c.args.bytes.now c.loop-v.p 9)
 
 pub row-requires : goal.row-requires
 row-requires c =
     subst (RowThere _ _ _) (sym (row_lent c.loop-v.labels c.loop-v.v c.args.w (omega (arith, next_room c.requires c.loop-v.invariant.bit (omega arith)))))
-    (next_row c.requires c.loop-v.invariant.bit (omega arith) c.get-count.ensures)
+    (next_row c.requires c.loop-v.invariant.bit (omega arith) c.in_four-count.ensures)
 
 pub overflow_mul-p-in-loop-v : goal.overflow_mul-p-in-loop-v
-overflow_mul-p-in-loop-v c = omega (arith, c.get-count.ensures, field_lt c.args.bytes.now c.loop-v.p 9)
+overflow_mul-p-in-loop-v c = omega (arith, c.in_four-count.ensures, field_lt c.args.bytes.now c.loop-v.p 9)
 
 pub overflow_add-p-in-loop-v : goal.overflow_add-p-in-loop-v
-overflow_add-p-in-loop-v c = omega (arith, c.get-count.ensures, field_lt c.args.bytes.now c.loop-v.p 9)
+overflow_add-p-in-loop-v c = omega (arith, c.in_four-count.ensures, field_lt c.args.bytes.now c.loop-v.p 9)
 
 pub overflow_add-p-in-loop-v-2 : goal.overflow_add-p-in-loop-v-2
 overflow_add-p-in-loop-v-2 c =
-    omega (arith, c.get-count.ensures, field_lt c.args.bytes.now c.loop-v.p 9, (next_row c.requires c.loop-v.invariant.bit (omega arith) refl).near)
+    omega (arith, c.in_four-count.ensures, field_lt c.args.bytes.now c.loop-v.p 9, (next_row c.requires c.loop-v.invariant.bit (omega arith) refl).near)
 
 pub loop-v-preserved : goal.loop-v-preserved
 unfolding count_at
@@ -46,10 +46,10 @@ loop-v-preserved c =
     let bit = c.loop-v.invariant.bit in
     let room : c.loop-v.v * c.args.w + c.args.w ≤ length c.loop-v.labels = omega (arith, next_room c.requires bit (omega arith)) in
     let lent = row_lent c.loop-v.labels c.loop-v.v c.args.w room in
-    let count = c.get-count.ensures ∙ ap (λ (x : ℕ). field_at c.args.bytes.now x 9) bit in
-    let row = c.row.ensures ∙ ap (λ (x : ℕ). table x (cell_of c.args.bytes.now c.loop-v.p c.get-count.result)) lent in
+    let count = c.in_four-count.ensures ∙ ap (λ (x : ℕ). field_at c.args.bytes.now x 9) bit in
+    let row = c.row.ensures ∙ ap (λ (x : ℕ). table x (cell_of c.args.bytes.now c.loop-v.p c.in_four-count.result)) lent in
     record {
-      bit = next_bit c.requires bit (omega arith) c.get-count.ensures;
+      bit = next_bit c.requires bit (omega arith) c.in_four-count.ensures;
       labelled =
           before_on c.row.new.row _ c.loop-v.invariant.labelled (omega arith) (row_next c.loop-v.v c.args.w) (ap length row ∙ length_table _ _)
           (row_cells _ _ _ c.loop-v.v bit count row);

@@ -28,25 +28,25 @@ flagged s n r few flags (e, q, low) =
 pub returns-in_err-frame : goal.returns-in_err-frame
 unfolding frame_at
 returns-in_err-frame c =
-    let o = order_out _ c.args.self.n c.args.r (stopped _ _ c.field.ensures c.in_err-frame.was) in
+    let o = order_out _ c.args.self.n c.args.r (stopped _ _ c.field_in_four.ensures c.in_err-frame.was) in
     record { found = refused_by o (search rules); noted = λ h. fine_not_refused (sym h ∙ o) }
 
 pub bounds-seen-frame : goal.bounds-seen-frame
-bounds-seen-frame c = omega (arith, (below _ _ _ _ c.field.ensures c.in_ok-frame.was).2, c.requires.1.long)
+bounds-seen-frame c = omega (arith, (below _ _ _ _ c.field_in_four.ensures c.in_ok-frame.was).2, c.requires.1.long)
 
 pub returns-in_err-test : goal.returns-in_err-test
 unfolding frame_at
 returns-in_err-test c =
-    let o = flagged _ c.args.self.n c.args.r c.args.self.few c.requires.1 (below _ _ _ _ c.field.ensures c.in_ok-frame.was)
+    let o = flagged _ c.args.self.n c.args.r c.args.self.few c.requires.1 (below _ _ _ _ c.field_in_four.ensures c.in_ok-frame.was)
     ∙ sym c.test.ensures ∙ c.in_err-test.was in
     record { found = refused_by o (search rules); noted = λ h. fine_not_refused (sym h ∙ o) }
 
 pub bounds-seen-frame-2 : goal.bounds-seen-frame-2
-bounds-seen-frame-2 c = omega (arith, (below _ _ _ _ c.field.ensures c.in_ok-frame.was).2, c.requires.1.long)
+bounds-seen-frame-2 c = omega (arith, (below _ _ _ _ c.field_in_four.ensures c.in_ok-frame.was).2, c.requires.1.long)
 
 pub returns : goal.returns
 unfolding frame_at
 returns c =
-    let (e, q, low) = below _ _ _ _ c.field.ensures c.in_ok-frame.was in
+    let (e, q, low) = below _ _ _ _ c.field_in_four.ensures c.in_ok-frame.was in
     let o = flagged _ c.args.self.n c.args.r c.args.self.few c.requires.1 (e, q, low) ∙ sym c.test.ensures ∙ c.in_ok-test.was in
     record { found = sym o; noted = λ h. seen_on c.requires.1 q (omega arith) }

@@ -1,10 +1,10 @@
--- A legal entry whose bytes are there goes on with its rank.
+-- `entry`: a legal entry whose bytes are there goes on with its rank, every other one is tested field by field.
 use native.Mathlib.Omega.{arith}
 use Rattle.fields.specs.Bits.{byte_len}
 use Rattle.fields.proofs.Bits.{pair_parts}
 use Rattle.file.proofs.Fields.{entry_legal}
 use Rattle.file.proofs.Steps.{short_fine, step_fine}
-use Rattle.file.proofs.check.Reading.quick.Goals as goal
+use Rattle.file.proofs.check.Reading.entry.Goals as goal
 
 pub returns-then-joins-self : goal.returns-then-joins-self
 unfolding byte_len
