@@ -83,3 +83,23 @@ pub fn walks(
         w, k, starts, places, order, labels, counts, met, queue, &mut noted,
     )
 }
+
+#[cfg(test)]
+mod tests {
+    use super::*;
+
+    // The chain 0-1-2-3: the neighbours of each frame.
+    #[test]
+    fn lists_of_a_chain(rt: HostRuntime) {
+        let starts = [0, 1, 3, 5, 6];
+        let places = [1, 0, 2, 1, 3, 2];
+        let lists = Lists {
+            starts: &starts,
+            places: &places,
+        };
+        assert_eq!(rt; lists.list(0), [1].as_slice());
+        assert_eq!(rt; lists.list(1), [0, 2].as_slice());
+        assert_eq!(rt; lists.list(2), [1, 3].as_slice());
+        assert_eq!(rt; lists.list(3), [2].as_slice());
+    }
+}

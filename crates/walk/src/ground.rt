@@ -18,7 +18,7 @@ pub struct Lists<'a> {
 }
 
 impl<'a> Lists<'a> {
-    fn list(&self, v: usize) -> &'a [u32]
+    pub fn list(&self, v: usize) -> &'a [u32]
         requires { v + 1 < length self.now.starts.now }
         ensures { result.now ≡ list_at self.now.starts.now self.now.places.now v }
     {
